@@ -1,0 +1,165 @@
+-- The laws of blending: its closed forms, and its bounds.
+-- Assumes nothing.
+use mathlib.Core.Path.{_≡_, sym, ap, _∙_}
+use mathlib.Core.Bool.{Bool, true, false, cond}
+use Prim.Native.Nat.{ℕ, _+_, _-_, _*_, _/_, _%_, _^_, _≤_, _<_, min, max}
+use native.Mathlib.Nat.{mul-comm, mul-assoc, mul-add, mul-le-mul-right}
+use native.Mathlib.Decide.{decLt}
+use native.Mathlib.Omega.{arith}
+use lib.Bits.{bitOr, or-shifted, or-lt}
+use lib.Dec.{eqb, ltb}
+use borrow.Author.Tests.{lt-ltb, le-ltb}
+use Rattle.half.specs.Half.{sign, field, digits, whole, hdrByte, hdrByteOf}
+use Rattle.blend.specs.Blend.{between, expand, crateByte, ldrChannel, hdrBlend, bent, halfOf, hdrChannel}
+
+-- ---- LDR
+-- a byte is expanded to 257 times itself
+pub expand-byte : (e : ℕ) → e ≤ 255 → expand e ≡ 257 * e
+unfolding expand
+expand-byte e h = or-shifted e 8 e (omega arith) ∙ omega arith
+
+-- the sum of two endpoints by their shares
+abbrev pub shares : ℕ → ℕ → ℕ → ℕ
+shares e0 e1 w = e0 * (64 - w) + e1 * w
+
+-- it lies between 64 times the smaller and 64 times the larger
+pub shares-least : (e0 e1 w : ℕ) → w ≤ 64 → 64 * min e0 e1 ≤ shares e0 e1 w
+shares-least e0 e1 w h =
+    let m = min e0 e1 in
+    let a : m * (64 - w) ≤ e0 * (64 - w) = mul-le-mul-right (64 - w) (omega arith) in
+    let b : m * w ≤ e1 * w = mul-le-mul-right w (omega arith) in
+    let s : m * (64 - w) + m * w ≡ m * 64 = sym (mul-add m (64 - w) w) ∙ ap (λ (n : ℕ). m * n) (omega arith) in
+    omega arith
+
+pub shares-most : (e0 e1 w : ℕ) → w ≤ 64 → shares e0 e1 w ≤ 64 * max e0 e1
+shares-most e0 e1 w h =
+    let m = max e0 e1 in
+    let a : e0 * (64 - w) ≤ m * (64 - w) = mul-le-mul-right (64 - w) (omega arith) in
+    let b : e1 * w ≤ m * w = mul-le-mul-right w (omega arith) in
+    let s : m * (64 - w) + m * w ≡ m * 64 = sym (mul-add m (64 - w) w) ∙ ap (λ (n : ℕ). m * n) (omega arith) in
+    omega arith
+
+-- the closed form for bytes, in 16 bits
+abbrev pub byteOf : ℕ → ℕ
+byteOf v = (v + 32 - v / 8192) / 64
+
+-- with v + 32 = 64 * k + r, the blended value is 4 * v + k, and 255 times it with one half is 65536 * k less k, and 1020 * r + 128
+scaled : (v k r : ℕ) → v + 32 ≡ 64 * k + r → 255 * (4 * v + k) + 32768 + k ≡ 65536 * k + 1020 * r + 128
+scaled v k r e = omega arith
+
+exact : (v k r : ℕ) → v + 32 ≡ 64 * k + r → r < 64 → k ≤ 1020 * r + 128 → (255 * (4 * v + k) + 32768) / 65536 ≡ k
+exact v k r e h l = let s = scaled v k r e in omega arith
+
+less-one : (v k r : ℕ) → v + 32 ≡ 64 * k + r → k ≤ 255 → 1020 * r + 128 < k → (255 * (4 * v + k) + 32768) / 65536 ≡ k - 1
+less-one v k r e h l = let s = scaled v k r e in omega arith
+
+down : (v k r : ℕ) → v ≤ 16320 → v + 32 ≡ 64 * k + r → 1020 * r + 128 < k → (k - 1) % 256 ≡ byteOf v
+down v k r h e l =
+    let z : r ≡ 0 = omega arith in
+    let q : v / 8192 ≡ 1 = omega arith in
+    let b : k ≤ 255 = omega arith in
+    let m : (k - 1) % 256 ≡ k - 1 = omega arith in
+    let d : (v + 32 - 1) / 64 ≡ k - 1 = omega arith in
+    rw q (m ∙ sym d)
+
+keep : (v k r : ℕ) → v ≤ 16320 → v + 32 ≡ 64 * k + r → r < 64 → k ≤ 1020 * r + 128 → Dec (v < 8192) → k % 256 ≡ byteOf v
+keep v k r h e l m (yes p) =
+    let q : v / 8192 ≡ 0 = omega arith in
+    rw q (omega arith)
+keep v k r h e l m (no p) =
+    let q : v / 8192 ≡ 1 = omega arith in
+    let z : 1 ≤ r = omega arith in
+    let b : k % 256 ≡ k = omega arith in
+    let d : (v + 32 - 1) / 64 ≡ k = omega arith in
+    rw q (b ∙ sym d)
+
+closed : (v : ℕ) → v ≤ 16320 → crateByte ((257 * v + 32) / 64) ≡ byteOf v
+unfolding crateByte
+closed v h =
+    let k = (v + 32) / 64 in
+    let r = (v + 32) % 64 in
+    let e : v + 32 ≡ 64 * k + r = omega arith in
+    let c : (257 * v + 32) / 64 ≡ 4 * v + k = omega arith in
+    rw c (go (decLt (1020 * r + 128) k) e)
+  where
+    go : Dec (1020 * ((v + 32) % 64) + 128 < (v + 32) / 64) → v + 32 ≡ 64 * ((v + 32) / 64) + (v + 32) % 64 → (255 * (4 * v + (v + 32) / 64) + 32768) / 65536 % 256 ≡ byteOf v
+    go (yes l) e = rw (less-one v ((v + 32) / 64) ((v + 32) % 64) e (omega arith) l) (down v ((v + 32) / 64) ((v + 32) % 64) h e l)
+    go (no l) e = rw (exact v ((v + 32) / 64) ((v + 32) % 64) e (omega arith) (omega arith)) (keep v ((v + 32) / 64) ((v + 32) % 64) h e (omega arith) (omega arith) (decLt v 8192))
+
+-- the channel of two bytes is the closed form of their shares
+pub ldr-closed : (e0 e1 w : ℕ) → e0 ≤ 255 → e1 ≤ 255 → w ≤ 64 → ldrChannel e0 e1 w ≡ byteOf (shares e0 e1 w)
+unfolding between
+ldr-closed e0 e1 w h l k =
+    let s : 257 * e0 * (64 - w) + 257 * e1 * w ≡ 257 * shares e0 e1 w =
+    ap (λ (n : ℕ). n + 257 * e1 * w) (mul-assoc 257 e0 (64 - w)) ∙ ap (λ (n : ℕ). 257 * (e0 * (64 - w)) + n) (mul-assoc 257 e1 w) ∙ sym (mul-add 257 (e0 * (64 - w)) (e1 * w)) in
+    let m : shares e0 e1 w ≤ 16320 = omega (arith, shares-most e0 e1 w k) in
+    rw (expand-byte e0 h, expand-byte e1 l, s) (closed (shares e0 e1 w) m)
+
+-- an LDR channel lies between its endpoints
+pub record Within (e0 e1 c : ℕ) : Type 0 where
+  pub least : min e0 e1 ≤ c
+  pub most : c ≤ max e0 e1
+
+pub ldr-within : (e0 e1 w : ℕ) → e0 ≤ 255 → e1 ≤ 255 → w ≤ 64 → Within e0 e1 (ldrChannel e0 e1 w)
+ldr-within e0 e1 w h l k =
+    let v = shares e0 e1 w in
+    let a : 64 * min e0 e1 ≤ v = shares-least e0 e1 w k in
+    let b : v ≤ 64 * max e0 e1 = shares-most e0 e1 w k in
+    rw (ldr-closed e0 e1 w h l k) (record { least = omega arith; most = omega arith })
+
+-- ---- HDR
+-- the blended value with the common factor taken out
+pub hdr-closed : (v0 v1 w : ℕ) → (shares v0 v1 w + 2) / 4 ≡ hdrBlend v0 v1 w
+unfolding between
+hdr-closed v0 v1 w =
+    let s : v0 * 16 * (64 - w) + v1 * 16 * w ≡ 16 * shares v0 v1 w =
+    ap (λ (n : ℕ). n * (64 - w) + v1 * 16 * w) (mul-comm v0 16) ∙ ap (λ (n : ℕ). 16 * v0 * (64 - w) + n * w) (mul-comm v1 16)
+    ∙ ap (λ (n : ℕ). n + 16 * v1 * w) (mul-assoc 16 v0 (64 - w)) ∙ ap (λ (n : ℕ). 16 * (v0 * (64 - w)) + n) (mul-assoc 16 v1 w) ∙ sym (mul-add 16 (v0 * (64 - w)) (v1 * w)) in
+    rw s (omega arith)
+
+pub hdr-blend-lt : (v0 v1 w : ℕ) → v0 < 4096 → v1 < 4096 → w ≤ 64 → hdrBlend v0 v1 w < 65536
+hdr-blend-lt v0 v1 w h l k = rw (← hdr-closed v0 v1 w) (omega (arith, shares-most v0 v1 w k))
+
+-- the logarithm's three pieces as one sum: natural numbers end at 0
+pub bent-sum : (m : ℕ) → 3 * m + (m - 512) + (m - 1536) ≡ bent m
+unfolding bent
+bent-sum m = go (decLt m 512) (decLt m 1536)
+  where
+    go : Dec (m < 512) → Dec (m < 1536) → 3 * m + (m - 512) + (m - 1536) ≡ cond (ltb m 512) (3 * m) (cond (ltb m 1536) (4 * m - 512) (5 * m - 2048))
+    go (yes p) q = rw (lt-ltb m 512 p) (omega arith)
+    go (no p) (yes q) = rw (le-ltb m 512 (omega arith), lt-ltb m 1536 q) (omega arith)
+    go (no p) (no q) = rw (le-ltb m 512 (omega arith), le-ltb m 1536 (omega arith)) (omega arith)
+
+pub half-lt : (c : ℕ) → c < 65536 → halfOf c < 32768
+unfolding halfOf
+half-lt c h = omega (arith, bent-sum (c % 2048))
+
+-- an HDR channel is a byte
+pub hdr-byte : (h : ℕ) → hdrByteOf h ≤ 255
+unfolding hdrByte
+hdr-byte h = go (eqb (field h) 31) (sign h)
+  where
+    go : (s t : Bool) → cond s 255 (cond t 0 (min (whole (field h) (digits h)) 255)) ≤ 255
+    go true t = omega arith
+    go false true = omega arith
+    go false false = omega arith
+
+-- ---- as the code has it
+pub expanded-is : (e : ℕ) → e ≤ 286 → bitOr (e * 256 % 2 ^ 32) e ≡ expand e
+unfolding expand
+expanded-is e h = let z : e * 256 % 2 ^ 32 ≡ e * 256 = omega arith in rw z
+
+pub expand-lt : (e : ℕ) → e ≤ 286 → expand e < 131072
+unfolding expand
+expand-lt e h = or-lt 17 (e * 256) e (omega arith) (omega arith)
+
+pub ldr-is : (e0 e1 w x0 x1 : ℕ) → x0 ≡ expand e0 → x1 ≡ expand e1 → (255 * ((x0 * (64 - w) + x1 * w + 32) / 64) + 32768) / 65536 % 256 ≡ ldrChannel e0 e1 w
+unfolding between crateByte
+ldr-is e0 e1 w x0 x1 p q = rw (p, q)
+
+pub half-is : (c a b : ℕ) → a ≡ c % 2048 - 512 → b ≡ c % 2048 - 1536 → c / 2048 * 1024 + (3 * (c % 2048) + a + b) / 8 ≡ halfOf c
+unfolding halfOf
+half-is c a b p q = rw (p, q, bent-sum (c % 2048))
+
+pub hdr-is : (v0 v1 w h r : ℕ) → h ≡ halfOf ((shares v0 v1 w + 2) / 4) → r ≡ hdrByteOf h → r ≡ hdrChannel v0 v1 w
+hdr-is v0 v1 w h r p q = q ∙ rw (p, hdr-closed v0 v1 w)

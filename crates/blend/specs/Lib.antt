@@ -1,0 +1,3 @@
+pub mod Blend
+pub mod BlendLaws
+pub mod Values

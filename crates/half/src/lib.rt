@@ -1,0 +1,84 @@
+// Halves, IEEE 754's binary16, as `f32`s and as bytes.
+ghost use mathlib.Core.Path.{_≡_};
+ghost use mathlib.Core.Bool.{false};
+ghost use Prim.Native.Nat.{_<_};
+ghost use Rattle.half.specs.Half.{half, value, productOf, finite, cut, hdrByteOf, voidByteOf};
+
+// The value of the half with no sign, the exponent's field x and the digits t.
+fn magnitude(x: u32, t: u32) -> f32
+    requires { ⌜ x < 32 ⌝ ∗ ⌜ t < 1024 ⌝ }
+    ensures { λ r. ⌜ r ≡ value false x t ⌝ }
+{
+    if x == 31 {
+        if t == 0 {
+            f32::from_bits(0x7f80_0000)
+        } else {
+            0.0 / 0.0
+        }
+    } else if x == 0 {
+        (t as f32) * 5.9604644775390625e-8
+    } else {
+        f32::from_bits((x + 112) * 8388608 + t * 8192)
+    }
+}
+
+// The half with the pattern h as the equal `f32`, and every NaN as a NaN.
+pub fn fp16_ieee_to_fp32_value(h: u16) -> f32
+    ensures { λ r. ⌜ r ≡ half h ⌝ }
+{
+    let n = h as u32;
+    let f = magnitude(n / 1024 % 32, n % 1024);
+    if n < 32768 { f } else { -f }
+}
+
+// 255 times the half: an `f32` holds it, so that nothing is rounded.
+pub fn half_times_255(h: u16) -> f32
+    ensures { λ r. ⌜ r ≡ productOf h ⌝ }
+{
+    fp16_ieee_to_fp32_value(h) * 255.0
+}
+
+fn is_finite(f: f32) -> bool
+    ensures { λ r. ⌜ r ≡ finite f ⌝ }
+{
+    if f < f32::from_bits(0x7f80_0000) {
+        f > f32::from_bits(0xff80_0000)
+    } else {
+        false
+    }
+}
+
+// The whole part of p, brought into a byte.
+fn low_byte(p: f32) -> u8
+    ensures { λ r. ⌜ r ≡ cut p ⌝ }
+{
+    if p < 256.0 {
+        if p > -1.0 {
+            std::num::truncating_f32_to_u64(p) as u8
+        } else {
+            0
+        }
+    } else {
+        255
+    }
+}
+
+// The byte of an HDR channel's half: 255 for an infinity and a NaN.
+pub fn hdr_to_u8(h: u16) -> u8
+    ensures { λ r. ⌜ r ≡ hdrByteOf h ⌝ }
+{
+    let p = half_times_255(h);
+    if is_finite(p) { low_byte(p) } else { 255 }
+}
+
+// The byte of a void extent's half, as the original's `f32_to_u8` has it: 0 for a NaN, 255 for either infinity.
+pub fn f16_to_u8(h: u16) -> u8
+    ensures { λ r. ⌜ r ≡ voidByteOf h ⌝ }
+{
+    let p = half_times_255(h);
+    if is_finite(p) {
+        low_byte(p)
+    } else {
+        if p != p { 0 } else { 255 }
+    }
+}

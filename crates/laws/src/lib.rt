@@ -1,0 +1,1 @@
+// Laws on lists and numbers that several layers cite: no code.

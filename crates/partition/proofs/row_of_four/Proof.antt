@@ -1,0 +1,77 @@
+-- `partition::row_of_four` meets its contract: each turn fills one place more. Assumes nothing.
+use Rattle.partition.specs.PartitionLaws.{row-four}
+use Rattle.partition.specs.Ramps.{rowOfFour}
+use Rattle.laws.specs.Lists.{put, put-start, put-turn}
+use borrow.Author.Needs.{needs}
+use mathlib.Core.Path.{_≡_}
+use Prim.Native.Nat.{_+_, _-_, _≤_}
+use native.Mathlib.Omega.{arith}
+use Rattle.partition.proofs.row_of_four.Statement.{statement}
+use Rattle.partition.proofs.row_of_four.Tie as tie
+
+abbrev Inv-loop : tie.InvT-loop
+Inv-loop out₀ o bw a b c d s₀ out s = (s ≤ bw) × (out ≡ put (rowOfFour a b c d o) o (o + s) out₀)
+
+abbrev μ-loop : tie.MeasureT-loop
+μ-loop out₀ o bw a b c d s₀ out s = bw - s
+
+loop-holds : tie.Need-loop-holds Inv-loop μ-loop
+loop-holds c = (omega arith, put-start _ _ _)
+
+in-row-requires : tie.Need-in-row-requires Inv-loop μ-loop
+in-row-requires c κs = search needs
+
+in-row-requires-2 : tie.Need-in-row-requires-2 Inv-loop μ-loop
+in-row-requires-2 c κs = search needs
+
+in-row-requires-3 : tie.Need-in-row-requires-3 Inv-loop μ-loop
+in-row-requires-3 c κs = search needs
+
+in-row-requires-4 : tie.Need-in-row-requires-4 Inv-loop μ-loop
+in-row-requires-4 c κs = search needs
+
+largest-of-four-requires : tie.Need-largest-of-four-requires Inv-loop μ-loop
+largest-of-four-requires c κs = search needs
+
+add-out : tie.Need-add-out Inv-loop μ-loop
+add-out c = omega arith
+
+element-write-out : tie.Need-element-write-out Inv-loop μ-loop
+element-write-out c = omega arith
+
+add-s : tie.Need-add-s Inv-loop μ-loop
+add-s c = omega arith
+
+loop-less : tie.Need-loop-less Inv-loop μ-loop
+loop-less c = omega arith
+
+loop-again : tie.Need-loop-again Inv-loop μ-loop
+loop-again c =
+    let a = c .before .before .before .before .before .before .before .args in
+    let l = c .before .before .before .before .before .before .loop in (
+      omega arith,
+      put-turn _ (a .o) (l .s) _ (l .out) _ (l .inv .1)
+          (row-four (a .a) (a .b) (a .c) (a .d) (a .o) (l .s) _ _ _ _ _ (c .before .before .before .before .in-row .ensures) (c .before .before .before .in-row2 .ensures) (c .before .before .in-row3 .ensures) (c .before .in-row4 .ensures) (c .largest-of-four .ensures)),
+    )
+
+returns : tie.Need-returns Inv-loop μ-loop
+returns c = let e : c .before .loop .s ≡ c .before .before .args .bw = omega arith in rw e at (c .before .loop .inv .1)
+
+pub row-of-four-spec : {M : Type 1} → statement M
+row-of-four-spec =
+    tie.close
+    (tie.spec
+    Inv-loop
+    μ-loop
+    loop-holds
+    in-row-requires
+    in-row-requires-2
+    in-row-requires-3
+    in-row-requires-4
+    largest-of-four-requires
+    add-out
+    element-write-out
+    add-s
+    loop-less
+    loop-again
+    returns)

@@ -1,0 +1,70 @@
+-- `partition::two` meets its contract: each turn fills one row more. Assumes nothing.
+use Rattle.partition.specs.PartitionLaws.{row-fits, moved-gentle, two-turn}
+use Rattle.partition.specs.Ramps.{ofTwo}
+use Rattle.laws.specs.Lists.{put, texels, put-rows}
+use borrow.Author.Needs.{needs}
+use mathlib.Core.Path.{_≡_}
+use Prim.Native.Nat.{_-_, _*_, _≤_}
+use native.Mathlib.Omega.{arith}
+use Rattle.partition.proofs.two.Statement.{statement}
+use Rattle.partition.proofs.two.Tie as tie
+
+abbrev Inv-loop : tie.InvT-loop
+Inv-loop out₀ a b bw bh t₀ out t = (t ≤ bh) × (out ≡ put (texels (ofTwo a b) bw) 0 (bw * t) out₀)
+
+abbrev μ-loop : tie.MeasureT-loop
+μ-loop out₀ a b bw bh t₀ out t = bh - t
+
+loop-holds : tie.Need-loop-holds Inv-loop μ-loop
+loop-holds c = (omega arith, put-rows _ _ _)
+
+mul-row-of-two : tie.Need-mul-row-of-two Inv-loop μ-loop
+mul-row-of-two c = omega (arith, row-fits (c .before .before .before .args .bw) (c .before .before .before .args .bh) (c .before .before .loop .t) (c .before .before .before .pre .1 .1) (c .before .loop-test .taken))
+
+moved-requires : tie.Need-moved-requires Inv-loop μ-loop
+moved-requires c κs = search needs
+
+moved-requires-2 : tie.Need-moved-requires-2 Inv-loop μ-loop
+moved-requires-2 c κs = search needs
+
+row-of-two-requires : tie.Need-row-of-two-requires Inv-loop μ-loop
+row-of-two-requires c κs =
+    let s = c .before .before .before .before .before in
+    let t = c .before .before .before .before .loop .t in (
+      moved-gentle (s .args .a) _ t (c .before .moved .ensures) (s .pre .0),
+      (
+        moved-gentle (s .args .b) _ t (c .moved2 .ensures) (s .pre .1 .0),
+        (row-fits (s .args .bw) (s .args .bh) t (s .pre .1 .1) (c .before .before .before .loop-test .taken), s .pre .1 .1 .width),
+      ),
+    )
+
+add-t : tie.Need-add-t Inv-loop μ-loop
+add-t c = omega arith
+
+loop-less : tie.Need-loop-less Inv-loop μ-loop
+loop-less c = omega arith
+
+loop-again : tie.Need-loop-again Inv-loop μ-loop
+loop-again c =
+    let s = c .before .before .before .before .before .before in
+    let l = c .before .before .before .before .before .loop in
+    (omega arith, two-turn (s .args .a) (s .args .b) _ _ (s .args .bw) (l .t) _ _ _ (s .pre .1 .1 .some) (c .before .before .moved .ensures) (c .before .moved2 .ensures) (l .inv .1) (c .row-of-two .ensures))
+
+returns : tie.Need-returns Inv-loop μ-loop
+returns c = let e : c .before .loop .t ≡ c .before .before .args .bh = omega arith in rw e at (c .before .loop .inv .1)
+
+pub two-spec : {M : Type 1} → statement M
+two-spec =
+    tie.close
+    (tie.spec
+    Inv-loop
+    μ-loop
+    loop-holds
+    mul-row-of-two
+    moved-requires
+    moved-requires-2
+    row-of-two-requires
+    add-t
+    loop-less
+    loop-again
+    returns)

@@ -1,0 +1,3 @@
+pub mod Partition
+pub mod Ramps
+pub mod PartitionLaws

@@ -1,0 +1,251 @@
+-- The laws of partitions: the hash in steps, a ramp's sums in any order, and every partition below the count.
+-- Assumes nothing.
+use mathlib.Core.Path.{_≡_, refl, sym, ap, _∙_}
+use mathlib.Core.Bool.{Bool, true, false, cond, _&&_}
+use mathlib.Core.Logic.{_⊎_, inl, inr}
+use Prim.Native.Nat.{ℕ, _+_, _-_, _*_, _/_, _%_, _^_, _≤_, _<_, max}
+use native.Mathlib.Nat.{mul-comm, mul-assoc, mul-le-mul, mul-le-mul-left, mul-add, mul-one, zero-mul, div-lt-iff-lt-mul}
+use lib.Pow.{pow-mono, pow-pos}
+use native.Mathlib.Omega.{arith}
+use native.Mathlib.Decide.{decLt}
+use lib.Dec.{eqb, leb, ltb, leb→le}
+use borrow.Author.Tests.{leb-true, le-leb, lt-leb, lt-ltb, le-ltb}
+use Rattle.laws.specs.Table.{all-at}
+use mathlib.Core.List.{List}
+use Rattle.laws.specs.Lists.{texels, put, put-row, put-same}
+use Rattle.partition.specs.Partition.{xorDown, xorUp, addUp, subUp, hash52, seedOf, byBit, byCount, shiftX, shiftY, factor, ramp, largest, select, scaleOf, partitionAt}
+use Rattle.partition.specs.Ramps.{Gentle, Sides, RampOf, movedTo, inRow, rowOfTwo, rowOfFour, rampAt, ofTwo, ofFour}
+use Rattle.partition.specs.declared.Ramp.{Ramp}
+
+-- ---- the hash
+pub hash-steps : (p b c d f : ℕ) → b ≡ subUp 17 (xorDown 15 p) → c ≡ addUp 7 b → d ≡ addUp 4 c → f ≡ addUp 16 (xorDown 5 d)
+    → xorDown 17 (xorUp 6 (xorDown 3 (xorDown 7 f))) ≡ hash52 p
+unfolding hash52
+hash-steps p b c d f hb hc hd hf = rw (hf, hd, hc, hb)
+
+-- a machine's difference is the one over whole numbers
+pub wrapped-sub : (r a b : ℕ) → r < 2 ^ 32 → b < 2 ^ 32 → (r + b) % 2 ^ 32 ≡ a → r ≡ (a + (2 ^ 32 - b)) % 2 ^ 32
+wrapped-sub r a b h l e = omega arith
+
+-- a machine's sum with an operand that was shifted up
+pub wrapped-add : (a b : ℕ) → (a + b % 2 ^ 32) % 2 ^ 32 ≡ (a + b) % 2 ^ 32
+wrapped-add a b = omega arith
+
+-- ---- the factors
+small-square : ℕ → Bool
+small-square v = leb (v * v) 225
+
+pub square-le : (v : ℕ) → v < 16 → v * v ≤ 225
+unfolding small-square
+square-le v h = leb→le (v * v) 225 (all-at small-square 16 tt v h)
+
+-- ---- a ramp
+-- the slopes and the start may be cut to six bits and added in any order
+pub ramp-sum : (r fx fy scale s t : ℕ) → ((r % 64 + scale * fy * t) % 64 + scale * fx * s) % 64 ≡ (fx * (scale * s) + fy * (scale * t) + r) % 64
+ramp-sum r fx fy scale s t =
+    let x : scale * fx * s ≡ fx * (scale * s) = ap (λ (n : ℕ). n * s) (mul-comm scale fx) ∙ mul-assoc fx scale s in
+    let y : scale * fy * t ≡ fy * (scale * t) = ap (λ (n : ℕ). n * t) (mul-comm scale fy) ∙ mul-assoc fy scale t in
+    omega arith
+
+-- ---- the largest
+-- as the code finds it: the larger of two pairs
+pub largest-first : (a b c d : ℕ) → b ≤ a → c ≤ a → d ≤ a → 0 ≡ largest a b c d
+unfolding largest
+largest-first a b c d p q r = sym (simp (le-leb b a p, le-leb c a q, le-leb d a r))
+
+pub largest-second : (a b c d : ℕ) → a < b → c ≤ b → d ≤ b → 1 ≡ largest a b c d
+unfolding largest
+largest-second a b c d p q r = sym (simp (lt-leb b a p, le-leb c b q, le-leb d b r))
+
+-- neither a nor b
+not-ab : (a b c d m : ℕ) (x : ℕ) → a < m → b < m → (m ≡ c) ⊎ (m ≡ d) → cond (leb b a && (leb c a && leb d a)) 0 (cond (leb c b && leb d b) 1 x) ≡ x
+not-ab a b c d m x p q e = go (leb b a) (leb c a) (leb d a) (leb c b) (leb d b) (leb-true c a) (leb-true d a) (leb-true c b) (leb-true d b) e
+  where
+    two : (s u : Bool) → (s ≡ true → c ≤ b) → (u ≡ true → d ≤ b) → (m ≡ c) ⊎ (m ≡ d) → cond (s && u) 1 x ≡ x
+    two true true hs hu (inl z) = absurd (let l : c ≤ b = hs refl in omega arith)
+    two true true hs hu (inr z) = absurd (let l : d ≤ b = hu refl in omega arith)
+    two true false hs hu z = refl
+    two false u hs hu z = refl
+
+    go : (s u v w y : Bool) → (u ≡ true → c ≤ a) → (v ≡ true → d ≤ a) → (w ≡ true → c ≤ b) → (y ≡ true → d ≤ b) → (m ≡ c) ⊎ (m ≡ d)
+        → cond (s && (u && v)) 0 (cond (w && y) 1 x) ≡ x
+    go true true true w y hu hv hw hy (inl z) = absurd (let l : c ≤ a = hu refl in omega arith)
+    go true true true w y hu hv hw hy (inr z) = absurd (let l : d ≤ a = hv refl in omega arith)
+    go true true false w y hu hv hw hy z = two w y hw hy z
+    go true false v w y hu hv hw hy z = two w y hw hy z
+    go false u v w y hu hv hw hy z = two w y hw hy z
+
+pub largest-third : (a b c d : ℕ) → a < c → b < c → d ≤ c → 2 ≡ largest a b c d
+unfolding largest
+largest-third a b c d p q r = sym (not-ab a b c d c _ p q (inl refl) ∙ rw (le-leb d c r))
+
+pub largest-fourth : (a b c d : ℕ) → a < d → b < d → c < d → 3 ≡ largest a b c d
+unfolding largest
+largest-fourth a b c d p q r = sym (not-ab a b c d d _ p q (inr refl) ∙ rw (lt-leb d c r))
+
+-- ---- every partition is below the count
+below-four : (a b c d : ℕ) → largest a b c d < 4
+unfolding largest
+below-four a b c d = go (leb b a && (leb c a && leb d a)) (leb c b && leb d b) (leb d c)
+  where
+    go : (s t u : Bool) → cond s 0 (cond t 1 (cond u 2 3)) < 4
+    go true t u = omega arith
+    go false true u = omega arith
+    go false false true = omega arith
+    go false false false = omega arith
+
+below-three : (a b c : ℕ) → largest a b c 0 < 3
+unfolding largest
+below-three a b c = rw (le-leb 0 c (omega arith)) (go (leb b a && (leb c a && leb 0 a)) (leb c b && leb 0 b))
+  where
+    go : (s t : Bool) → cond s 0 (cond t 1 2) < 3
+    go true t = omega arith
+    go false true = omega arith
+    go false false = omega arith
+
+below-two : (a b : ℕ) → largest a b 0 0 < 2
+unfolding largest
+below-two a b = rw (le-leb 0 b (omega arith)) (go (leb b a && (leb 0 a && leb 0 a)))
+  where
+    go : (s : Bool) → cond s 0 1 < 2
+    go true = omega arith
+    go false = omega arith
+
+pub partition-below : (number parts bw bh i : ℕ) → 2 ≤ parts → parts ≤ 4 → partitionAt number parts bw bh i < parts
+unfolding partitionAt select
+partition-below number parts bw bh i l h = go (decLt parts 3) (decLt parts 4)
+  where
+    r : ℕ → ℕ
+    r k = ramp (seedOf number parts) parts k (scaleOf bw bh * (i % bw)) (scaleOf bw bh * (i / bw))
+
+    go : Dec (parts < 3) → Dec (parts < 4) → largest (r 0) (r 1) (cond (ltb parts 3) 0 (r 2)) (cond (ltb parts 4) 0 (r 3)) < parts
+    go (yes p) q = rw (lt-ltb parts 3 p, lt-ltb parts 4 (omega arith)) (omega (arith, below-two (r 0) (r 1)))
+    go (no p) (yes q) = rw (le-ltb parts 3 (omega arith), lt-ltb parts 4 q) (omega (arith, below-three (r 0) (r 1) (r 2)))
+    go (no p) (no q) = rw (le-ltb parts 3 (omega arith), le-ltb parts 4 (omega arith)) (omega (arith, below-four (r 0) (r 1) (r 2) (r 3)))
+
+-- ---- each way out of the code
+pub two-second : (a b : ℕ) → a < b → 1 ≡ largest a b 0 0
+two-second a b h = largest-second a b 0 0 h (omega arith) (omega arith)
+
+pub two-first : (a b : ℕ) → b ≤ a → 0 ≡ largest a b 0 0
+two-first a b h = largest-first a b 0 0 h (omega arith) (omega arith)
+
+pub four-last : (a b c d m n : ℕ) → m ≡ max a b → n ≡ max c d → m < n → c < d → 3 ≡ largest a b c d
+four-last a b c d m n p q h l = largest-fourth a b c d (omega arith) (omega arith) l
+
+pub four-third : (a b c d m n : ℕ) → m ≡ max a b → n ≡ max c d → m < n → d ≤ c → 2 ≡ largest a b c d
+four-third a b c d m n p q h l = largest-third a b c d (omega arith) (omega arith) l
+
+pub four-second : (a b c d m n : ℕ) → m ≡ max a b → n ≡ max c d → n ≤ m → a < b → 1 ≡ largest a b c d
+four-second a b c d m n p q h l = largest-second a b c d l (omega arith) (omega arith)
+
+pub four-first : (a b c d m n : ℕ) → m ≡ max a b → n ≡ max c d → n ≤ m → b ≤ a → 0 ≡ largest a b c d
+four-first a b c d m n p q h l = largest-first a b c d l (omega arith) (omega arith)
+
+-- ---- the shifts
+chosen : (t : Bool) (a b l m : ℕ) → l ≤ a → a ≤ m → l ≤ b → b ≤ m → (l ≤ cond t a b) × (cond t a b ≤ m)
+chosen true a b l m p q r s = (p, q)
+chosen false a b l m p q r s = (r, s)
+
+bit-bounds : (seed : ℕ) → (4 ≤ byBit seed) × (byBit seed ≤ 6)
+bit-bounds seed = chosen (eqb (seed / 2 % 2) 1) 4 5 4 6 (omega arith) (omega arith) (omega arith) (omega arith)
+
+count-bounds : (parts : ℕ) → (4 ≤ byCount parts) × (byCount parts ≤ 6)
+count-bounds parts = chosen (eqb parts 3) 6 5 4 6 (omega arith) (omega arith) (omega arith) (omega arith)
+
+pub x-bounds : (seed parts : ℕ) → (4 ≤ shiftX seed parts) × (shiftX seed parts ≤ 6)
+unfolding shiftX
+x-bounds seed parts =
+    let p = bit-bounds seed in
+    let q = count-bounds parts in
+    chosen (eqb (seed % 2) 1) (byBit seed) (byCount parts) 4 6 (p .0) (p .1) (q .0) (q .1)
+
+pub y-bounds : (seed parts : ℕ) → (4 ≤ shiftY seed parts) × (shiftY seed parts ≤ 6)
+unfolding shiftY
+y-bounds seed parts =
+    let p = bit-bounds seed in
+    let q = count-bounds parts in
+    chosen (eqb (seed % 2) 1) (byCount parts) (byBit seed) 4 6 (q .0) (q .1) (p .0) (p .1)
+
+pub factor-le : (r at shift : ℕ) → 4 ≤ shift → factor r at shift ≤ 14
+unfolding factor
+factor-le r at shift h =
+    let v = r / 2 ^ at % 16 in
+    let s : v * v ≤ 225 = square-le v (omega arith) in
+    let m : 15 * 2 ^ 4 ≤ 15 * 2 ^ shift = mul-le-mul-left 15 (pow-mono h) in
+    let l : v * v / 2 ^ shift < 15 = div-lt-iff-lt-mul (pow-pos shift) .1 (omega arith) in
+    omega arith
+
+-- ---- a ramp's numbers stay small
+pub gentle-mul : (b n : ℕ) → b ≤ 28 → n < 12 → b * n ≤ 308
+gentle-mul b n h l = let m : n ≤ 11 = omega arith in mul-le-mul h m
+
+pub ramp-is : (seed parts i scale r fx fy : ℕ) → r ≡ hash52 seed → fx ≡ factor r (8 * i) (shiftX seed parts) → fy ≡ factor r (8 * i + 4) (shiftY seed parts)
+    → fx ≤ 14 → fy ≤ 14 → scale ≤ 2 → RampOf seed parts i scale (record { start = r / 2 ^ (14 - 4 * i) % 64; along = scale * fx; down = scale * fy })
+unfolding ramp
+ramp-is seed parts i scale r fx fy e ex ey hx hy hs = record {
+  gentle = record { start = omega arith; along = mul-le-mul hs hx; down = mul-le-mul hs hy };
+  value = λ s t. ramp-sum (r / 2 ^ (14 - 4 * i)) fx fy scale s t ∙ rw (ex, ey, e);
+}
+
+-- ---- rows
+pub row-two : (a b : Ramp) (o s x y r : ℕ) → x ≡ inRow a s → y ≡ inRow b s → r ≡ largest x y 0 0 → r ≡ rowOfTwo a b o (o + s)
+row-two a b o s x y r p q e = let z : o + s - o ≡ s = omega arith in rw z (e ∙ rw (p, q))
+
+pub row-four : (a b c d : Ramp) (o s x y z w r : ℕ) → x ≡ inRow a s → y ≡ inRow b s → z ≡ inRow c s → w ≡ inRow d s → r ≡ largest x y z w → r ≡ rowOfFour a b c d o (o + s)
+row-four a b c d o s x y z w r p q u v e = let n : o + s - o ≡ s = omega arith in rw n (e ∙ rw (p, q, u, v))
+
+-- a turn of the loop over the rows, from ramps that start in row y
+pub two-turn : (a b m n : Ramp) (w y : ℕ) (s t u : List ℕ) → 0 < w → m ≡ movedTo a y → n ≡ movedTo b y → t ≡ put (texels (ofTwo a b) w) 0 (w * y) s
+    → u ≡ put (rowOfTwo m n (w * y)) (w * y) (w * y + w) t → u ≡ put (texels (ofTwo a b) w) 0 (w * (y + 1)) s
+unfolding ofTwo
+two-turn a b m n w y s t u p em en et eu =
+    eu ∙ rw (em, en, et) (put-row (ofTwo a b) (rowOfTwo (movedTo a y) (movedTo b y) (w * y)) w y s p (λ k l h. refl))
+
+pub four-turn : (a b c d m n p q : Ramp) (w y : ℕ) (s t u : List ℕ) → 0 < w → m ≡ movedTo a y → n ≡ movedTo b y → p ≡ movedTo c y → q ≡ movedTo d y
+    → t ≡ put (texels (ofFour a b c d) w) 0 (w * y) s → u ≡ put (rowOfFour m n p q (w * y)) (w * y) (w * y + w) t
+    → u ≡ put (texels (ofFour a b c d) w) 0 (w * (y + 1)) s
+unfolding ofFour
+four-turn a b c d m n p q w y s t u l em en ep eq et eu =
+    eu
+    ∙ rw (em, en, ep, eq, et)
+    (put-row (ofFour a b c d) (rowOfFour (movedTo a y) (movedTo b y) (movedTo c y) (movedTo d y) (w * y)) w y s l (λ k g h. refl))
+
+pub moved-gentle : (k m : Ramp) (t : ℕ) → m ≡ movedTo k t → Gentle k → Gentle m
+moved-gentle k m t e g = rw e (record { start = omega arith; along = g .along; down = g .down })
+
+-- rows of a footprint stay within 144 places
+pub row-fits : (bw bh t : ℕ) → Sides bw bh → t < bh → bw * t + bw ≤ 144
+row-fits bw bh t s h =
+    let u : t + 1 ≤ 12 = omega arith in
+    let m : bw * (t + 1) ≤ 144 = mul-le-mul (s .width) u in
+    omega (arith, mul-add bw t 1, mul-one bw)
+
+-- ---- the whole
+flat-zero : (s t : ℕ) → rampAt (record { start = 0; along = 0; down = 0 }) s t ≡ 0
+flat-zero s t = rw (zero-mul t, zero-mul s)
+
+pub flat-gentle : Gentle (record { start = 0; along = 0; down = 0 })
+flat-gentle = record { start = omega arith; along = omega arith; down = omega arith }
+
+module _ (number parts bw bh scale : ℕ) (s u : List ℕ) (es : scale ≡ scaleOf bw bh) where
+  pub of-two : (a b : Ramp) → parts ≡ 2 → RampOf (seedOf number parts) parts 0 scale a → RampOf (seedOf number parts) parts 1 scale b
+      → u ≡ put (texels (ofTwo a b) bw) 0 (bw * bh) s → u ≡ put (partitionAt number parts bw bh) 0 (bw * bh) s
+  unfolding ofTwo partitionAt select
+  of-two a b e ra rb q =
+      q ∙ put-same _ _ 0 (bw * bh) s
+      (λ k l h. rw (lt-ltb parts 3 (omega arith), lt-ltb parts 4 (omega arith), ra .value (k % bw) (k / bw), rb .value (k % bw) (k / bw), es))
+
+  pub of-three : (a b c : Ramp) → parts ≡ 3 → RampOf (seedOf number parts) parts 0 scale a → RampOf (seedOf number parts) parts 1 scale b → RampOf (seedOf number parts) parts 2 scale c
+      → u ≡ put (texels (ofFour a b c (record { start = 0; along = 0; down = 0 })) bw) 0 (bw * bh) s → u ≡ put (partitionAt number parts bw bh) 0 (bw * bh) s
+  unfolding ofFour partitionAt select
+  of-three a b c e ra rb rc q =
+      q ∙ put-same _ _ 0 (bw * bh) s
+      (λ k l h. rw (le-ltb parts 3 (omega arith), lt-ltb parts 4 (omega arith), ra .value (k % bw) (k / bw), rb .value (k % bw) (k / bw), rc .value (k % bw) (k / bw), flat-zero (k % bw) (k / bw), es))
+
+  pub of-four : (a b c d : Ramp) → 4 ≤ parts → RampOf (seedOf number parts) parts 0 scale a → RampOf (seedOf number parts) parts 1 scale b → RampOf (seedOf number parts) parts 2 scale c
+      → RampOf (seedOf number parts) parts 3 scale d → u ≡ put (texels (ofFour a b c d) bw) 0 (bw * bh) s → u ≡ put (partitionAt number parts bw bh) 0 (bw * bh) s
+  unfolding ofFour partitionAt select
+  of-four a b c d e ra rb rc rd q =
+      q ∙ put-same _ _ 0 (bw * bh) s
+      (λ k l h. rw (le-ltb parts 3 (omega arith), le-ltb parts 4 (omega arith), ra .value (k % bw) (k / bw), rb .value (k % bw) (k / bw), rc .value (k % bw) (k / bw), rd .value (k % bw) (k / bw), es))
