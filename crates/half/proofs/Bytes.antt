@@ -1,4 +1,4 @@
--- A float as a byte, by two comparisons and a cut, and the bytes of halves. Assumes nothing.
+-- A float as a byte, by two comparisons and a cut, and the bytes of a void extent's halves. Assumes nothing.
 use mathlib.Core.Path.{_≡_, refl, sym, ap, _∙_, subst}
 use Prim.Native.Nat.{ℕ, _+_, _-_, _*_, _/_, _^_, _≤_, _<_, min}
 use native.Mathlib.Nat.{div-lt-iff-lt-mul, le-div-iff-mul-le}
@@ -13,7 +13,7 @@ use lib.Ieee.Fits.{down-pos}
 use lib.Ieee.Bits.{cond-no}
 use lib.Ieee.Exact.{HasValue}
 use lib.Ieee.Nearest.{div-same}
-use Rattle.half.specs.Half.{sig, product, whole, finite, cut, hdrByte, voidByte}
+use Rattle.half.specs.Half.{sig, product, whole, finite, cut, voidByte}
 use Rattle.half.proofs.Halves.{eq-or-not, not-eqb, product-val}
 
 -- ---- `is_finite`
@@ -127,17 +127,6 @@ field-is s x t h = elim (eq-or-not x 31) [ inl e ↦ e | inr n ↦ absurd (true�
 cut-product : (s : Bool) (x t : ℕ) → (x ≡ 31 → ⊥) → cut (product s x t) ≡ cond s 0 (min (whole x t) 255)
 cut-product s x t n = cut-val (product s x t) s (sig x t * 255 * 2 ^ (x - 1)) (2 ^ 24) (pow-pos 24) (product-val s x t n)
 
--- ---- `hdr_to_u8`
-hdr-yes : (s : Bool) (x t : ℕ) → finite (product s x t) ≡ true → cut (product s x t) ≡ hdrByte s x t
-unfolding hdrByte
-hdr-yes s x t h =
-    let n : x ≡ 31 → ⊥ = field-of s x t h in
-    cut-product s x t n ∙ sym (cond-no (eqb x 31) 255 (cond s 0 (min (whole x t) 255)) (not-eqb x 31 n))
-
-hdr-no : (s : Bool) (x t : ℕ) → finite (product s x t) ≡ false → 255 ≡ hdrByte s x t
-unfolding hdrByte
-hdr-no s x t h = ap (λ (z : ℕ). hdrByte s z t) (sym (field-is s x t h))
-
 -- ---- `f16_to_u8`
 void-yes : (s : Bool) (x t : ℕ) → finite (product s x t) ≡ true → cut (product s x t) ≡ voidByte s x t
 unfolding voidByte
@@ -167,16 +156,10 @@ void-no s x t u h k =
     let e = field-is s x t h in
     pick (eqb t 0) u (sym (ne-31 (eqb t 0) s) ∙ ap (λ (p : Float). ne p p) (sym (product-31 s x t e)) ∙ k) ∙ sym (void-31 s x t e)
 
--- ---- as the functions have it: p is the product, b is what `is_finite` answered, r is the result
+-- ---- as the function has it: p is the product, b is what `is_finite` answered, r is the result
 module _ (s : Bool) (x t : ℕ) (p : Float) (b : Bool) (e : p ≡ product s x t) (g : b ≡ finite p) where
   answered : (u : Bool) → b ≡ u → finite (product s x t) ≡ u
   answered u h = ap finite (sym e) ∙ sym g ∙ h
-
-  pub ret-hdr-yes : (r : ℕ) → b ≡ true → r ≡ cut p → r ≡ hdrByte s x t
-  ret-hdr-yes r h k = k ∙ ap cut e ∙ hdr-yes s x t (answered true h)
-
-  pub ret-hdr-no : b ≡ false → 255 ≡ hdrByte s x t
-  ret-hdr-no h = hdr-no s x t (answered false h)
 
   pub ret-void-yes : (r : ℕ) → b ≡ true → r ≡ cut p → r ≡ voidByte s x t
   ret-void-yes r h k = k ∙ ap cut e ∙ void-yes s x t (answered true h)

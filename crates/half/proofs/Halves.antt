@@ -161,7 +161,7 @@ product-val s x t h =
     (sym (cond-no (eqb x 31) (cond (eqb t 0) (inf s) nan) (odd 19 s (sig x t * 255) (x - 1) 24) (not-eqb x 31 h)))
     (odd-sign 19 s (sig x t * 255) (x - 1) 24)
 
-times-lt : (q : ℕ) → q < 2 ^ 11 → q * 255 < 2 ^ 19
+pub times-lt : (q : ℕ) → q < 2 ^ 11 → q * 255 < 2 ^ 19
 times-lt q h = omega arith
 
 pub product-fits : (s : Bool) (x t : ℕ) → x < 32 → t < 1024 → T (fits binary32 (product s x t))

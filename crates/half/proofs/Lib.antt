@@ -2,3 +2,4 @@
 mod Values
 mod Halves
 mod Bytes
+mod Scaled

@@ -1,7 +1,7 @@
 // Halves, IEEE 754's binary16, as `f32`s and as bytes.
 ghost use mathlib.Core.Path.{_≡_};
 ghost use mathlib.Core.Bool.{false};
-ghost use Prim.Native.Nat.{_<_};
+ghost use Prim.Native.Nat.{_<_, _≤_, min, max};
 ghost use Rattle.half.specs.Half.{half, value, productOf, finite, cut, hdrByteOf, voidByteOf};
 
 // The value of the half with no sign, the exponent's field x and the digits t.
@@ -63,12 +63,28 @@ fn low_byte(p: f32) -> u8
     }
 }
 
-// The byte of an HDR channel's half: 255 for an infinity and a NaN.
+fn between(low: u16, h: u16, high: u16) -> u16
+    requires { ⌜ low ≤ high ⌝ }
+    ensures { λ r. ⌜ r ≡ max low (min h high) ⌝ }
+{
+    if h < low {
+        low
+    } else if h < high {
+        h
+    } else {
+        high
+    }
+}
+
+// The byte of an HDR channel's half, which has no sign. From 1.0 on, infinity and NaN with it, it is 255, and below 2^-13 it is 0, so that the half is
+// brought between the two first. Then 2^23 times its product is a whole number, and the casts lose nothing (an `f32` beyond 2^24 is cast to no integer,
+// an `f64` is).
 pub fn hdr_to_u8(h: u16) -> u8
+    requires { ⌜ h < 32768 ⌝ }
     ensures { λ r. ⌜ r ≡ hdrByteOf h ⌝ }
 {
-    let p = half_times_255(h);
-    if is_finite(p) { low_byte(p) } else { 255 }
+    let p = half_times_255(between(0x800, h, 0x3c00));
+    ((p as f64 * 8388608.0) as i32 as u32 / 8388608) as u8
 }
 
 // The byte of a void extent's half, as the original's `f32_to_u8` has it: 0 for a NaN, 255 for either infinity.

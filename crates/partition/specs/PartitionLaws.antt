@@ -12,9 +12,9 @@ use lib.Dec.{eqb, leb, ltb, leb→le}
 use borrow.Author.Tests.{leb-true, le-leb, lt-leb, lt-ltb, le-ltb}
 use Rattle.laws.specs.Table.{all-at}
 use mathlib.Core.List.{List}
-use Rattle.laws.specs.Lists.{texels, put, put-row, put-same}
+use Rattle.laws.specs.Lists.{texels, put, putAt, put-row, put-same}
 use Rattle.partition.specs.Partition.{xorDown, xorUp, addUp, subUp, hash52, seedOf, byBit, byCount, shiftX, shiftY, factor, ramp, largest, select, scaleOf, partitionAt}
-use Rattle.partition.specs.Ramps.{Gentle, Sides, RampOf, movedTo, inRow, rowOfTwo, rowOfFour, rampAt, ofTwo, ofFour}
+use Rattle.partition.specs.Ramps.{Gentle, Sides, RampOf, movedTo, inRowOfTwo, inRowOfFour, rampAt, ofTwo, ofFour}
 use Rattle.partition.specs.declared.Ramp.{Ramp}
 
 -- ---- the hash
@@ -189,27 +189,21 @@ ramp-is seed parts i scale r fx fy e ex ey hx hy hs = record {
 }
 
 -- ---- rows
-pub row-two : (a b : Ramp) (o s x y r : ℕ) → x ≡ inRow a s → y ≡ inRow b s → r ≡ largest x y 0 0 → r ≡ rowOfTwo a b o (o + s)
-row-two a b o s x y r p q e = let z : o + s - o ≡ s = omega arith in rw z (e ∙ rw (p, q))
-
-pub row-four : (a b c d : Ramp) (o s x y z w r : ℕ) → x ≡ inRow a s → y ≡ inRow b s → z ≡ inRow c s → w ≡ inRow d s → r ≡ largest x y z w → r ≡ rowOfFour a b c d o (o + s)
-row-four a b c d o s x y z w r p q u v e = let n : o + s - o ≡ s = omega arith in rw n (e ∙ rw (p, q, u, v))
-
 -- a turn of the loop over the rows, from ramps that start in row y
 pub two-turn : (a b m n : Ramp) (w y : ℕ) (s t u : List ℕ) → 0 < w → m ≡ movedTo a y → n ≡ movedTo b y → t ≡ put (texels (ofTwo a b) w) 0 (w * y) s
-    → u ≡ put (rowOfTwo m n (w * y)) (w * y) (w * y + w) t → u ≡ put (texels (ofTwo a b) w) 0 (w * (y + 1)) s
-unfolding ofTwo
+    → u ≡ putAt (inRowOfTwo m n) (w * y) w t → u ≡ put (texels (ofTwo a b) w) 0 (w * (y + 1)) s
+unfolding ofTwo putAt
 two-turn a b m n w y s t u p em en et eu =
-    eu ∙ rw (em, en, et) (put-row (ofTwo a b) (rowOfTwo (movedTo a y) (movedTo b y) (w * y)) w y s p (λ k l h. refl))
+    eu ∙ rw (em, en, et) (put-row (ofTwo a b) (λ (k : ℕ). inRowOfTwo (movedTo a y) (movedTo b y) (k - w * y)) w y s p (λ k l h. refl))
 
 pub four-turn : (a b c d m n p q : Ramp) (w y : ℕ) (s t u : List ℕ) → 0 < w → m ≡ movedTo a y → n ≡ movedTo b y → p ≡ movedTo c y → q ≡ movedTo d y
-    → t ≡ put (texels (ofFour a b c d) w) 0 (w * y) s → u ≡ put (rowOfFour m n p q (w * y)) (w * y) (w * y + w) t
+    → t ≡ put (texels (ofFour a b c d) w) 0 (w * y) s → u ≡ putAt (inRowOfFour m n p q) (w * y) w t
     → u ≡ put (texels (ofFour a b c d) w) 0 (w * (y + 1)) s
-unfolding ofFour
+unfolding ofFour putAt
 four-turn a b c d m n p q w y s t u l em en ep eq et eu =
     eu
     ∙ rw (em, en, ep, eq, et)
-    (put-row (ofFour a b c d) (rowOfFour (movedTo a y) (movedTo b y) (movedTo c y) (movedTo d y) (w * y)) w y s l (λ k g h. refl))
+    (put-row (ofFour a b c d) (λ (k : ℕ). inRowOfFour (movedTo a y) (movedTo b y) (movedTo c y) (movedTo d y) (k - w * y)) w y s l (λ k g h. refl))
 
 pub moved-gentle : (k m : Ramp) (t : ℕ) → m ≡ movedTo k t → Gentle k → Gentle m
 moved-gentle k m t e g = rw e (record { start = omega arith; along = g .along; down = g .down })

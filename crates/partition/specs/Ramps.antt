@@ -33,12 +33,12 @@ rampAt k s t = (atRow k t + k .along * s) % 64
 abbrev pub movedTo : Ramp → ℕ → Ramp
 movedTo k t = record { start = atRow k t; along = k .along; down = k .down }
 
--- the partition at place k of a row that starts at place o
-abbrev pub rowOfTwo : Ramp → Ramp → ℕ → ℕ → ℕ
-rowOfTwo a b o k = largest (inRow a (k - o)) (inRow b (k - o)) 0 0
+-- the partition at column s of the row that the ramps start
+abbrev pub inRowOfTwo : Ramp → Ramp → ℕ → ℕ
+inRowOfTwo a b s = largest (inRow a s) (inRow b s) 0 0
 
-abbrev pub rowOfFour : Ramp → Ramp → Ramp → Ramp → ℕ → ℕ → ℕ
-rowOfFour a b c d o k = largest (inRow a (k - o)) (inRow b (k - o)) (inRow c (k - o)) (inRow d (k - o))
+abbrev pub inRowOfFour : Ramp → Ramp → Ramp → Ramp → ℕ → ℕ
+inRowOfFour a b c d s = largest (inRow a s) (inRow b s) (inRow c s) (inRow d s)
 
 -- at column s of row t
 unfoldable pub ofTwo : Ramp → Ramp → ℕ → ℕ → ℕ

@@ -1,9 +1,9 @@
 // Partitions: the hash of a partition number, and the partition of each texel.
 ghost use mathlib.Core.Path.{_≡_};
 ghost use Prim.Native.Nat.{_+_, _*_, _≤_, _<_, max};
-ghost use Rattle.laws.specs.Lists.{put, texels};
+ghost use Rattle.laws.specs.Lists.{put, putAt, texels};
 ghost use Rattle.partition.specs.Partition.{hash52, byBit, byCount, shiftX, shiftY, factor, largest, scaleOf, partitionAt};
-ghost use Rattle.partition.specs.Ramps.{Gentle, Sides, RampOf, movedTo, inRow, rowOfTwo, rowOfFour, ofTwo, ofFour};
+ghost use Rattle.partition.specs.Ramps.{Gentle, Sides, RampOf, movedTo, inRow, inRowOfTwo, inRowOfFour, ofTwo, ofFour};
 
 // A ramp over a footprint: its value at the first texel, and its slopes along a row and down a column.
 pub struct Ramp {
@@ -107,7 +107,7 @@ fn larger_of_two(a: u16, b: u16) -> u8
 
 fn row_of_two(out: &mut [u8; 144], o: usize, bw: usize, a: Ramp, b: Ramp)
     requires { ⌜ (Gentle a) × ((Gentle b) × ((o + bw ≤ 144) × (bw ≤ 12))) ⌝ }
-    ensures { λ r. ⌜ now (out .exit) ≡ put (rowOfTwo a b o) o (o + bw) (now (out .entry)) ⌝ }
+    ensures { λ r. ⌜ now (out .exit) ≡ putAt (inRowOfTwo a b) o bw (now (out .entry)) ⌝ }
 {
     let mut s = 0;
     while s < bw {
@@ -146,7 +146,7 @@ fn largest_of_four(a: u16, b: u16, c: u16, d: u16) -> u8
 
 fn row_of_four(out: &mut [u8; 144], o: usize, bw: usize, a: Ramp, b: Ramp, c: Ramp, d: Ramp)
     requires { ⌜ (Gentle a) × ((Gentle b) × ((Gentle c) × ((Gentle d) × ((o + bw ≤ 144) × (bw ≤ 12))))) ⌝ }
-    ensures { λ r. ⌜ now (out .exit) ≡ put (rowOfFour a b c d o) o (o + bw) (now (out .entry)) ⌝ }
+    ensures { λ r. ⌜ now (out .exit) ≡ putAt (inRowOfFour a b c d) o bw (now (out .entry)) ⌝ }
 {
     let mut s = 0;
     while s < bw {

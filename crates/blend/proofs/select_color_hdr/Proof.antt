@@ -1,5 +1,5 @@
 -- `blend::select_color_hdr` meets its contract: the common factor of 16 is taken out of the sum. Assumes nothing.
-use Rattle.blend.specs.BlendLaws.{shares-most, hdr-is}
+use Rattle.blend.specs.BlendLaws.{shares-most, hdr-is, half-lt}
 use native.Mathlib.Omega.{arith}
 use borrow.Author.Needs.{needs}
 use Rattle.blend.proofs.select_color_hdr.Statement.{statement}
@@ -24,7 +24,9 @@ hdr-half-requires : tie.Need-hdr-half-requires
 hdr-half-requires c κs = omega (arith, shares-most (c .args .v0) (c .args .v1) (c .args .weight) (c .pre .1 .1))
 
 hdr-to-u8-requires : tie.Need-hdr-to-u8-requires
-hdr-to-u8-requires c κs = search needs
+hdr-to-u8-requires c κs =
+    rw (c .hdr-half .ensures)
+    (half-lt _ (omega (arith, shares-most (c .before .args .v0) (c .before .args .v1) (c .before .args .weight) (c .before .pre .1 .1))))
 
 returns : tie.Need-returns
 returns c = search hdr-is

@@ -1,22 +1,21 @@
 -- `partition::row_of_four` meets its contract: each turn fills one place more. Assumes nothing.
-use Rattle.partition.specs.PartitionLaws.{row-four}
-use Rattle.partition.specs.Ramps.{rowOfFour}
-use Rattle.laws.specs.Lists.{put, put-start, put-turn}
+use Rattle.partition.specs.Ramps.{inRowOfFour}
+use Rattle.laws.specs.Lists.{putAt, putAt-none, putAt-turn}
 use borrow.Author.Needs.{needs}
 use mathlib.Core.Path.{_≡_}
-use Prim.Native.Nat.{_+_, _-_, _≤_}
+use Prim.Native.Nat.{_-_, _≤_}
 use native.Mathlib.Omega.{arith}
 use Rattle.partition.proofs.row_of_four.Statement.{statement}
 use Rattle.partition.proofs.row_of_four.Tie as tie
 
 abbrev Inv-loop : tie.InvT-loop
-Inv-loop out₀ o bw a b c d s₀ out s = (s ≤ bw) × (out ≡ put (rowOfFour a b c d o) o (o + s) out₀)
+Inv-loop out₀ o bw a b c d s₀ out s = (s ≤ bw) × (out ≡ putAt (inRowOfFour a b c d) o s out₀)
 
 abbrev μ-loop : tie.MeasureT-loop
 μ-loop out₀ o bw a b c d s₀ out s = bw - s
 
 loop-holds : tie.Need-loop-holds Inv-loop μ-loop
-loop-holds c = (omega arith, put-start _ _ _)
+loop-holds c = (omega arith, putAt-none _ _ _)
 
 in-row-requires : tie.Need-in-row-requires Inv-loop μ-loop
 in-row-requires c κs = search needs
@@ -47,11 +46,10 @@ loop-less c = omega arith
 
 loop-again : tie.Need-loop-again Inv-loop μ-loop
 loop-again c =
-    let a = c .before .before .before .before .before .before .before .args in
     let l = c .before .before .before .before .before .before .loop in (
       omega arith,
-      put-turn _ (a .o) (l .s) _ (l .out) _ (l .inv .1)
-          (row-four (a .a) (a .b) (a .c) (a .d) (a .o) (l .s) _ _ _ _ _ (c .before .before .before .before .in-row .ensures) (c .before .before .before .in-row2 .ensures) (c .before .before .in-row3 .ensures) (c .before .in-row4 .ensures) (c .largest-of-four .ensures)),
+      putAt-turn _ _ (l .s) _ _ (l .out) (l .inv .1)
+          (rw (c .before .before .before .before .in-row .ensures, c .before .before .before .in-row2 .ensures, c .before .before .in-row3 .ensures, c .before .in-row4 .ensures) at (c .largest-of-four .ensures)),
     )
 
 returns : tie.Need-returns Inv-loop μ-loop

@@ -1,22 +1,21 @@
 -- `partition::row_of_two` meets its contract: each turn fills one place more. Assumes nothing.
-use Rattle.partition.specs.PartitionLaws.{row-two}
-use Rattle.partition.specs.Ramps.{rowOfTwo}
-use Rattle.laws.specs.Lists.{put, put-start, put-turn}
+use Rattle.partition.specs.Ramps.{inRowOfTwo}
+use Rattle.laws.specs.Lists.{putAt, putAt-none, putAt-turn}
 use borrow.Author.Needs.{needs}
 use mathlib.Core.Path.{_≡_}
-use Prim.Native.Nat.{_+_, _-_, _≤_}
+use Prim.Native.Nat.{_-_, _≤_}
 use native.Mathlib.Omega.{arith}
 use Rattle.partition.proofs.row_of_two.Statement.{statement}
 use Rattle.partition.proofs.row_of_two.Tie as tie
 
 abbrev Inv-loop : tie.InvT-loop
-Inv-loop out₀ o bw a b s₀ out s = (s ≤ bw) × (out ≡ put (rowOfTwo a b o) o (o + s) out₀)
+Inv-loop out₀ o bw a b s₀ out s = (s ≤ bw) × (out ≡ putAt (inRowOfTwo a b) o s out₀)
 
 abbrev μ-loop : tie.MeasureT-loop
 μ-loop out₀ o bw a b s₀ out s = bw - s
 
 loop-holds : tie.Need-loop-holds Inv-loop μ-loop
-loop-holds c = (omega arith, put-start _ _ _)
+loop-holds c = (omega arith, putAt-none _ _ _)
 
 in-row-requires : tie.Need-in-row-requires Inv-loop μ-loop
 in-row-requires c κs = search needs
@@ -41,9 +40,8 @@ loop-less c = omega arith
 
 loop-again : tie.Need-loop-again Inv-loop μ-loop
 loop-again c =
-    let a = c .before .before .before .before .before .args in
     let l = c .before .before .before .before .loop in
-    (omega arith, put-turn _ (a .o) (l .s) _ (l .out) _ (l .inv .1) (row-two (a .a) (a .b) (a .o) (l .s) _ _ _ (c .before .before .in-row .ensures) (c .before .in-row2 .ensures) (c .larger-of-two .ensures)))
+    (omega arith, putAt-turn _ _ (l .s) _ _ (l .out) (l .inv .1) (rw (c .before .before .in-row .ensures, c .before .in-row2 .ensures) at (c .larger-of-two .ensures)))
 
 returns : tie.Need-returns Inv-loop μ-loop
 returns c = let e : c .before .loop .s ≡ c .before .before .args .bw = omega arith in rw e at (c .before .loop .inv .1)

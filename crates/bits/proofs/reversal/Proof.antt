@@ -1,0 +1,14 @@
+-- One test over all 256 entries.
+use mathlib.Core.Path.{refl}
+use Prim.Native.Nat.{_-_}
+use Rattle.laws.specs.Lists.{tested}
+use Rattle.bits.specs.Bits.{reversed, reversals}
+use Rattle.bits.proofs.reversal.Statement.{statement}
+use Rattle.bits.proofs.reversal.Tie as tie
+
+returns : tie.Need-returns
+unfolding reversed reversals
+returns c = tested (reversed 8) 256 _ refl tt
+
+pub reversal-spec : {M : Type 1} → statement M
+reversal-spec = tie.close (tie.spec returns)

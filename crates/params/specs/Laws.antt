@@ -1,0 +1,375 @@
+-- What a legal block's fields are: within the block and disjoint, the widest range, and nothing outside them counts.
+-- Assumes nothing.
+use mathlib.Core.Path.{_≡_, refl, sym, ap, _∙_, subst}
+use mathlib.Core.Bool.{Bool, true, false, cond, _&&_}
+use mathlib.Core.Logic.{_⊎_, inl, inr, ⊎-elim}
+use Prim.Native.Nat.{ℕ, zero, suc, _+_, _-_, _*_, _/_, _≤_, _<_}
+use native.Mathlib.Omega.{arith}
+use borrow.Author.Tests.{lt-ltb, le-ltb, ltb-false, leb-true, leb-false, eq-eqb, ne-eqb, eqb-true}
+use lib.Dec.{leb, eqb}
+use Rattle.bits.specs.Bits.{bitsAt}
+use Rattle.bits.specs.BitLaws.{locality, same-bits}
+use Rattle.laws.specs.Table.{at}
+use Rattle.sequence.specs.Ranges.{rangeOf, ranges}
+use Rattle.sequence.specs.Sequence.{totalOf}
+use Rattle.params.specs.Ranges.{cost, widest}
+use Rattle.params.specs.Widest.{Roomy}
+use Rattle.params.specs.Config.{isVoid, isReserved, configOf, partsOf, confLen, modeOf, classOf}
+use Rattle.params.specs.Blocks.{endVerdict, verdict, answer, used, weights, lowOf, endRange, mapOf, legal, refused, extraOf, paramsOf}
+use Rattle.params.specs.Bounds.{Small, small, rest-most}
+use Rattle.params.specs.declared.Config.{Config}
+use Rattle.params.specs.declared.Map.{Map}
+use Rattle.params.specs.declared.Params.{Params}
+
+-- ---- the checks
+-- an answer of 0: the first test failed, and what follows answers 0
+passed : (b : Bool) (k r : ℕ) → cond b (suc k) r ≡ 0 → (b ≡ false) × (r ≡ 0)
+passed true k r e = absurd (no e)
+  where
+    no : suc k ≡ 0 → ⊥
+    no h = omega arith
+passed false k r e = (refl, e)
+
+pub record Legal (k : Config) (bw bh : ℕ) : Type 0 where
+  pub wide : k .width ≤ bw
+  pub high : k .height ≤ bh
+  pub few : weights k ≤ 64
+  pub least : 24 ≤ k .weightlen
+  pub most : k .weightlen ≤ 96
+  pub plane : eqb (k .planes) 2 && eqb (k .parts) 4 ≡ false
+  pub values : k .values ≤ 18
+  pub room : (13 * k .values + 4) / 5 + used k ≤ 128
+
+pub verdict-legal : (k : Config) (bw bh : ℕ) → verdict k bw bh ≡ 0 → Legal k bw bh
+unfolding verdict endVerdict
+verdict-legal k bw bh e =
+    let s1 = passed _ 10 _ e in
+    let s2 = passed _ 10 _ (s1 .1) in
+    let s3 = passed _ 11 _ (s2 .1) in
+    let s4 = passed _ 12 _ (s3 .1) in
+    let s5 = passed _ 12 _ (s4 .1) in
+    let s6 = passed _ 13 _ (s5 .1) in
+    let s7 = passed _ 14 _ (s6 .1) in
+    let s8 = passed _ 15 _ (s7 .1) in
+    record {
+      wide = ltb-false _ _ (s1 .0);
+      high = ltb-false _ _ (s2 .0);
+      few = ltb-false _ _ (s3 .0);
+      least = ltb-false _ _ (s4 .0);
+      most = ltb-false _ _ (s5 .0);
+      plane = s6 .0;
+      values = ltb-false _ _ (s7 .0);
+      room = ltb-false _ _ (s8 .0);
+    }
+
+pub record Ordinary (c bw bh : ℕ) : Type 0 where
+  pub void : isVoid c ≡ false
+  pub free : isReserved c ≡ false
+  pub rules : Legal (configOf c) bw bh
+
+pub ordinary : (c bw bh : ℕ) → answer c bw bh ≡ 0 → Ordinary c bw bh
+unfolding answer
+ordinary c bw bh e =
+    let s1 = passed _ 0 _ e in
+    let s2 = passed _ 9 _ (s1 .1) in
+    record { void = s1 .0; free = s2 .0; rules = verdict-legal _ _ _ (s2 .1) }
+
+-- the chain, one lemma for each way out: a proof of a function that makes the tests in this order is `search` over these
+module _ (k : Config) (bw bh : ℕ) where
+  pub on-width : bw < k .width → 11 ≡ verdict k bw bh
+  unfolding verdict
+  on-width a = simp (lt-ltb _ _ a)
+
+  pub on-height : k .width ≤ bw → bh < k .height → 11 ≡ verdict k bw bh
+  unfolding verdict
+  on-height a b = simp (le-ltb _ _ a, lt-ltb _ _ b)
+
+  pub on-many : k .width ≤ bw → k .height ≤ bh → 64 < weights k → 12 ≡ verdict k bw bh
+  unfolding verdict
+  on-many a b c = simp (le-ltb _ _ a, le-ltb _ _ b, lt-ltb _ _ c)
+
+  pub on-few : k .width ≤ bw → k .height ≤ bh → weights k ≤ 64 → k .weightlen < 24 → 13 ≡ verdict k bw bh
+  unfolding verdict
+  on-few a b c d = simp (le-ltb _ _ a, le-ltb _ _ b, le-ltb _ _ c, lt-ltb _ _ d)
+
+  pub on-long : k .width ≤ bw → k .height ≤ bh → weights k ≤ 64 → 24 ≤ k .weightlen → 96 < k .weightlen → 13 ≡ verdict k bw bh
+  unfolding verdict
+  on-long a b c d e = simp (le-ltb _ _ a, le-ltb _ _ b, le-ltb _ _ c, le-ltb _ _ d, lt-ltb _ _ e)
+
+  pub on-planes : k .width ≤ bw → k .height ≤ bh → weights k ≤ 64 → 24 ≤ k .weightlen → k .weightlen ≤ 96 → k .planes ≡ 2 → k .parts ≡ 4 → 14 ≡ verdict k bw bh
+  unfolding verdict
+  on-planes a b c d e f g = simp (le-ltb _ _ a, le-ltb _ _ b, le-ltb _ _ c, le-ltb _ _ d, le-ltb _ _ e, eq-eqb _ _ f, eq-eqb _ _ g)
+
+  pub on-ends : (r : ℕ) → k .width ≤ bw → k .height ≤ bh → weights k ≤ 64 → 24 ≤ k .weightlen → k .weightlen ≤ 96 → (k .planes ≡ 2 → ⊥) → r ≡ endVerdict k → r ≡ verdict k bw bh
+  unfolding verdict
+  on-ends r a b c d e f g = simp (le-ltb _ _ a, le-ltb _ _ b, le-ltb _ _ c, le-ltb _ _ d, le-ltb _ _ e, ne-eqb _ _ f) g
+
+  pub on-ends-dual : (r : ℕ) → k .width ≤ bw → k .height ≤ bh → weights k ≤ 64 → 24 ≤ k .weightlen → k .weightlen ≤ 96 → k .planes ≡ 2 → (k .parts ≡ 4 → ⊥) → r ≡ endVerdict k → r ≡ verdict k bw bh
+  unfolding verdict
+  on-ends-dual r a b c d e f i g = simp (le-ltb _ _ a, le-ltb _ _ b, le-ltb _ _ c, le-ltb _ _ d, le-ltb _ _ e, eq-eqb _ _ f, ne-eqb _ _ i) g
+
+-- ---- the range
+-- the narrowest range takes ceil (13 n / 5) bits
+cost-4 : (n : ℕ) → cost 4 n ≡ (13 * n + 4) / 5
+unfolding cost totalOf rangeOf ranges
+cost-4 n = omega arith
+
+-- what `widest` finds: it fits if any does, and none above it does
+pub record Widest (top n used q : ℕ) : Type 0 where
+  pub least : 4 ≤ q
+  pub most : q ≤ top
+  pub fits : cost q n + used ≤ 128
+  pub best : (r : ℕ) → q < r → r ≤ top → 128 < cost r n + used
+
+pub widest-is : (k n used : ℕ) → cost 4 n + used ≤ 128 → Widest (k + 4) n used (widest k n used)
+unfolding widest
+widest-is zero n used h = record { least = omega arith; most = omega arith; fits = h; best = λ r a b. omega arith }
+widest-is (suc k) n used h = go (leb (cost (suc k + 4) n + used) 128) refl (widest-is k n used h)
+  where
+    go : (b : Bool) → leb (cost (suc k + 4) n + used) 128 ≡ b → Widest (k + 4) n used (widest k n used) → Widest (suc k + 4) n used (cond b (suc k + 4) (widest k n used))
+    go true e w = record { least = omega arith; most = omega arith; fits = leb-true _ _ e; best = λ r a b. omega arith }
+    go false e w = record { least = w .least; most = omega arith; fits = w .fits; best = λ r a b. last r a b (leb r (k + 4)) refl }
+      where
+        last : (r : ℕ) → widest k n used < r → r ≤ suc k + 4 → (t : Bool) → leb r (k + 4) ≡ t → 128 < cost r n + used
+        last r a b true u = w .best r a (leb-true _ _ u)
+        last r a b false u =
+            let l : k + 4 < r = leb-false _ _ u in
+            let s : suc k + 4 ≡ r = omega arith in
+            subst (λ (x : ℕ). 128 < cost x n + used) s (leb-false _ _ e)
+
+-- ---- the map of a legal block
+pub record Fields (m : Map) : Type 0 where
+  -- one after the other, within the 128 bits
+  pub ends : m .lowlen ≤ m .endat
+  pub extra : m .endat + m .endlen ≤ m .extraat
+  pub weights : m .extraat + m .extralen ≡ m .weightat
+  pub last : m .weightat + m .weightlen ≡ 128
+
+pub range-is : (c bw bh : ℕ) → answer c bw bh ≡ 0 → Widest 20 (configOf c .values) (used (configOf c)) (endRange (configOf c))
+range-is c bw bh e =
+    let k = configOf c in
+    let o = ordinary c bw bh e in
+    widest-is 16 (k .values) (used k) (omega (arith, cost-4 (k .values), o .rules .room))
+
+pub fields : (c bw bh : ℕ) → answer c bw bh ≡ 0 → Fields (mapOf (configOf c))
+unfolding mapOf
+fields c bw bh e =
+    let w = range-is c bw bh e in
+    let l = ordinary c bw bh e .rules in
+    record { ends = omega arith; extra = omega (arith, w .fits); weights = omega (arith, w .fits); last = omega (arith, l .most) }
+
+-- ---- locality
+-- two blocks have the same bits from s to s + n
+abbrev pub Same : ℕ → ℕ → ℕ → ℕ → Type 0
+Same v w s n = (k : ℕ) → s ≤ k → k < s + n → bitsAt v k 1 ≡ bitsAt w k 1
+
+-- at every mapped bit
+pub record SameMapped (m : Map) (v w : ℕ) : Type 0 where
+  pub low : Same v w 0 (m .lowlen)
+  pub ends : Same v w (m .endat) (m .endlen)
+  pub extra : Same v w (m .extraat) (m .extralen)
+  pub weights : Same v w (m .weightat) (m .weightlen)
+
+-- the low configuration has as many partitions as the block
+conf-least : (p : ℕ) → 17 ≤ confLen p
+unfolding confLen
+conf-least p = go (eqb p 1)
+  where
+    go : (b : Bool) → 17 ≤ cond b 17 29
+    go true = omega arith
+    go false = omega arith
+
+pub parts-are : (v : ℕ) → partsOf (lowOf v) ≡ bitsAt v 11 2 + 1
+unfolding partsOf lowOf
+parts-are v =
+    let p = bitsAt v 11 2 + 1 in
+    ap (λ (x : ℕ). x + 1) (sym (locality v 0 (confLen p) 11 2 (omega (arith, conf-least p))))
+
+low-same : (v w : ℕ) → Same v w 0 (confLen (partsOf (lowOf v))) → lowOf v ≡ lowOf w
+unfolding lowOf
+low-same v w s =
+    let p = bitsAt v 11 2 + 1 in
+    let s′ : Same v w 0 (confLen p) = rw (parts-are v) at s in
+    let e : bitsAt v 11 2 ≡ bitsAt w 11 2 = same-bits v w 11 2 (λ k a b. s′ k (omega arith) (omega (arith, conf-least p))) in
+    same-bits v w 0 (confLen p) s′ ∙ ap (λ (x : ℕ). bitsAt w 0 (confLen (x + 1))) e
+
+answer-is : (v bw bh : ℕ) → paramsOf v bw bh .answer ≡ answer (lowOf v) bw bh
+unfolding paramsOf legal refused
+answer-is v bw bh = go (answer (lowOf v) bw bh) (eqb (answer (lowOf v) bw bh) 0) refl
+  where
+    go : (a : ℕ) (b : Bool) → eqb a 0 ≡ b → cond b (legal (lowOf v) (extraOf (mapOf (configOf (lowOf v))) v)) (refused a) .answer ≡ a
+    go a true e = sym (eqb-true _ _ e)
+    go a false e = refl
+
+pub legal-is : (v bw bh : ℕ) → answer (lowOf v) bw bh ≡ 0 → paramsOf v bw bh ≡ legal (lowOf v) (extraOf (mapOf (configOf (lowOf v))) v)
+unfolding paramsOf
+legal-is v bw bh e = rw e
+
+-- ---- the same by the checks, for a decoder that makes them one after the other
+pub answer-1 : (c bw bh : ℕ) → isVoid c ≡ true → answer c bw bh ≡ 1
+unfolding answer
+answer-1 c bw bh w = rw w
+
+pub answer-10 : (c bw bh : ℕ) → isVoid c ≡ false → isReserved c ≡ true → answer c bw bh ≡ 10
+unfolding answer
+answer-10 c bw bh w r = rw (w, r)
+
+pub answer-rest : (c bw bh : ℕ) → isVoid c ≡ false → isReserved c ≡ false → answer c bw bh ≡ verdict (configOf c) bw bh
+unfolding answer
+answer-rest c bw bh w r = rw (w, r)
+
+pub refused-low : (c v bw bh a : ℕ) → c ≡ lowOf v → answer c bw bh ≡ a → (a ≡ 0 → ⊥) → refused a ≡ paramsOf v bw bh
+unfolding paramsOf
+refused-low c v bw bh a e h z = rw (← e, h, ne-eqb a 0 z)
+
+pub legal-low : (c v bw bh : ℕ) → c ≡ lowOf v → answer c bw bh ≡ 0 → legal c (extraOf (mapOf (configOf c)) v) ≡ paramsOf v bw bh
+unfolding paramsOf
+legal-low c v bw bh e h = rw (← e, h)
+
+-- the same with each test's flag and each part's result by name: a decoder's ways out, by `search`
+pub out-void : (v bw bh c : ℕ) (r : Params) (w : Bool) → c ≡ lowOf v → w ≡ isVoid c → w ≡ true → r ≡ refused 1 → r ≡ paramsOf v bw bh
+out-void v bw bh c r w q i j g = g ∙ refused-low c v bw bh 1 q (answer-1 c bw bh (sym i ∙ j)) (λ h. omega arith)
+
+pub out-reserved : (v bw bh c : ℕ) (r : Params) (w s : Bool) → c ≡ lowOf v → w ≡ isVoid c → w ≡ false → s ≡ isReserved c → s ≡ true → r ≡ refused 10 → r ≡ paramsOf v bw bh
+out-reserved v bw bh c r w s q i j m n g = g ∙ refused-low c v bw bh 10 q (answer-10 c bw bh (sym i ∙ j) (sym m ∙ n)) (λ h. omega arith)
+
+ruled : (bw bh c a : ℕ) (k : Config) (w s : Bool) → w ≡ isVoid c → w ≡ false → s ≡ isReserved c → s ≡ false → k ≡ configOf c → a ≡ verdict k bw bh → answer c bw bh ≡ a
+ruled bw bh c a k w s i j m n o p = answer-rest c bw bh (sym i ∙ j) (sym m ∙ n) ∙ ap (λ (x : Config). verdict x bw bh) (sym o) ∙ sym p
+
+pub out-rule : (v bw bh c a : ℕ) (k : Config) (r : Params) (w s : Bool) → c ≡ lowOf v → w ≡ isVoid c → w ≡ false → s ≡ isReserved c → s ≡ false → k ≡ configOf c → a ≡ verdict k bw bh → (a ≡ 0 → ⊥) → r ≡ refused a → r ≡ paramsOf v bw bh
+out-rule v bw bh c a k r w s q i j m n o p z g = g ∙ refused-low c v bw bh a q (ruled bw bh c a k w s i j m n o p) z
+
+pub out-legal : (v bw bh c a : ℕ) (k : Config) (r : Params) (w s : Bool) → c ≡ lowOf v → w ≡ isVoid c → w ≡ false → s ≡ isReserved c → s ≡ false → k ≡ configOf c → a ≡ verdict k bw bh → a ≡ 0 → r ≡ legal c (extraOf (mapOf (configOf c)) v) → r ≡ paramsOf v bw bh
+out-legal v bw bh c a k r w s q i j m n o p z g = g ∙ legal-low c v bw bh q (ruled bw bh c a k w s i j m n o p ∙ z)
+
+pub small-of : (c : ℕ) (k : Config) → k ≡ configOf c → Small k
+small-of c k e = rw e (small c)
+
+pub used-of : (k : Config) (bw bh a : ℕ) → a ≡ verdict k bw bh → a ≡ 0 → used k ≤ 128
+used-of k bw bh a e z = omega (arith, verdict-legal k bw bh (sym e ∙ z) .room)
+
+pub roomy-of : (c : ℕ) (k : Config) (bw bh a : ℕ) → k ≡ configOf c → a ≡ verdict k bw bh → a ≡ 0 → Roomy (k .values) (128 - used k)
+roomy-of c k bw bh a o e z =
+    let l = verdict-legal k bw bh (sym e ∙ z) in
+    let s = small-of c k o in
+    record { even = s .pairs; least = s .pair; most = l .values; fits = omega (arith, l .room); block = omega arith }
+
+map-is : (v bw bh : ℕ) → answer (lowOf v) bw bh ≡ 0 → paramsOf v bw bh .map ≡ mapOf (configOf (lowOf v))
+unfolding legal
+map-is v bw bh a = ap (λ (p : Params). p .map) (legal-is v bw bh a)
+
+low-is : (c : ℕ) → mapOf (configOf c) .lowlen ≡ confLen (partsOf c)
+unfolding mapOf configOf
+low-is c = refl
+
+-- ---- the theorems
+-- the fields of a legal block lie one after the other, so within the block and disjoint
+pub map-fields : (v bw bh : ℕ) → paramsOf v bw bh .answer ≡ 0 → Fields (paramsOf v bw bh .map)
+map-fields v bw bh e =
+    let a : answer (lowOf v) bw bh ≡ 0 = sym (answer-is v bw bh) ∙ e in
+    rw (map-is v bw bh a) (fields (lowOf v) bw bh a)
+
+-- its endpoints' range is the widest that has room
+pub map-range : (v bw bh : ℕ) → paramsOf v bw bh .answer ≡ 0 → Widest 20 (paramsOf v bw bh .config .values) (used (paramsOf v bw bh .config)) (paramsOf v bw bh .range)
+unfolding legal
+map-range v bw bh e =
+    let a : answer (lowOf v) bw bh ≡ 0 = sym (answer-is v bw bh) ∙ e in
+    rw (legal-is v bw bh a) (range-is (lowOf v) bw bh a)
+
+local-low : (v w bw bh : ℕ) → paramsOf v bw bh .answer ≡ 0 → SameMapped (paramsOf v bw bh .map) v w → lowOf v ≡ lowOf w
+local-low v w bw bh e s =
+    let a : answer (lowOf v) bw bh ≡ 0 = sym (answer-is v bw bh) ∙ e in
+    let s′ : SameMapped (mapOf (configOf (lowOf v))) v w = rw (map-is v bw bh a) at s in
+    low-same v w (rw (low-is (lowOf v)) at (s′ .low))
+
+-- a block that has the same mapped bits has the same answer, parameters and map
+pub local : (v w bw bh : ℕ) → paramsOf v bw bh .answer ≡ 0 → SameMapped (paramsOf v bw bh .map) v w → paramsOf v bw bh ≡ paramsOf w bw bh
+local v w bw bh e s =
+    let a : answer (lowOf v) bw bh ≡ 0 = sym (answer-is v bw bh) ∙ e in
+    let m = mapOf (configOf (lowOf v)) in
+    let s′ : SameMapped m v w = rw (map-is v bw bh a) at s in
+    let l : lowOf v ≡ lowOf w = local-low v w bw bh e s in
+    let x : extraOf m v ≡ extraOf m w = same-bits v w (m .extraat) (m .extralen) (s′ .extra) in
+    legal-is v bw bh a
+    ∙ ap (legal (lowOf v)) x
+    ∙ ap (λ (c : ℕ). legal c (extraOf (mapOf (configOf c)) w)) l
+    ∙ sym (legal-is w bw bh (rw l at a))
+
+-- ---- the same bit by bit
+abbrev pub Inside : ℕ → ℕ → ℕ → Type 0
+Inside s n k = (s ≤ k) × (k < s + n)
+
+-- bit k stands in a field of the map
+abbrev pub Mapped : Map → ℕ → Type 0
+Mapped m k = Inside 0 (m .lowlen) k ⊎ (Inside (m .endat) (m .endlen) k ⊎ (Inside (m .extraat) (m .extralen) k ⊎ Inside (m .weightat) (m .weightlen) k))
+
+-- whatever stands at the unmapped bits, answer, parameters and map are the same, and so are the numbers of the fields
+pub record SameBlock (v w bw bh : ℕ) : Type 0 where
+  pub low : lowOf v ≡ lowOf w
+  pub params : paramsOf v bw bh ≡ paramsOf w bw bh
+  pub ends : bitsAt v (paramsOf v bw bh .map .endat) (paramsOf v bw bh .map .endlen) ≡ bitsAt w (paramsOf v bw bh .map .endat) (paramsOf v bw bh .map .endlen)
+  pub weights : bitsAt v (paramsOf v bw bh .map .weightat) (paramsOf v bw bh .map .weightlen) ≡ bitsAt w (paramsOf v bw bh .map .weightat) (paramsOf v bw bh .map .weightlen)
+
+pub unmapped : (v w bw bh : ℕ) → paramsOf v bw bh .answer ≡ 0 → ((k : ℕ) → Mapped (paramsOf v bw bh .map) k → bitsAt v k 1 ≡ bitsAt w k 1) → SameBlock v w bw bh
+unmapped v w bw bh e h =
+    let m = paramsOf v bw bh .map in
+    let s : SameMapped m v w = record {
+      low = λ k a b. h k (inl (a, b));
+      ends = λ k a b. h k (inr (inl (a, b)));
+      extra = λ k a b. h k (inr (inr (inl (a, b))));
+      weights = λ k a b. h k (inr (inr (inr (a, b))));
+    } in
+    record {
+      low = local-low v w bw bh e s;
+      params = local v w bw bh e s;
+      ends = same-bits v w (m .endat) (m .endlen) (s .ends);
+      weights = same-bits v w (m .weightat) (m .weightlen) (s .weights);
+    }
+
+-- no bit stands in two fields, and none past bit 127
+pub record Disjoint (m : Map) (k : ℕ) : Type 0 where
+  pub low-ends : Inside 0 (m .lowlen) k → Inside (m .endat) (m .endlen) k → ⊥
+  pub low-extra : Inside 0 (m .lowlen) k → Inside (m .extraat) (m .extralen) k → ⊥
+  pub low-weights : Inside 0 (m .lowlen) k → Inside (m .weightat) (m .weightlen) k → ⊥
+  pub ends-extra : Inside (m .endat) (m .endlen) k → Inside (m .extraat) (m .extralen) k → ⊥
+  pub ends-weights : Inside (m .endat) (m .endlen) k → Inside (m .weightat) (m .weightlen) k → ⊥
+  pub extra-weights : Inside (m .extraat) (m .extralen) k → Inside (m .weightat) (m .weightlen) k → ⊥
+  pub within : Mapped m k → k < 128
+
+pub disjoint : (v bw bh k : ℕ) → paramsOf v bw bh .answer ≡ 0 → Disjoint (paramsOf v bw bh .map) k
+disjoint v bw bh k e =
+    let m = paramsOf v bw bh .map in
+    let f : Fields m = map-fields v bw bh e in
+    record {
+      low-ends = λ a b. omega arith;
+      low-extra = λ a b. omega arith;
+      low-weights = λ a b. omega arith;
+      ends-extra = λ a b. omega arith;
+      ends-weights = λ a b. omega arith;
+      extra-weights = λ a b. omega arith;
+      within = ⊎-elim (λ a. omega arith) (⊎-elim (λ a. omega arith) (⊎-elim (λ a. omega arith) (λ a. omega arith)));
+    }
+
+-- ---- what a caller may rely on
+pub record Valid (p : Params) (bw bh : ℕ) : Type 0 where
+  pub small : Small (p .config)
+  pub rules : Legal (p .config) bw bh
+  pub range : p .range < 21
+  pub fields : Fields (p .map)
+
+pub valid : (v bw bh : ℕ) → paramsOf v bw bh .answer ≡ 0 → Valid (paramsOf v bw bh) bw bh
+unfolding legal
+valid v bw bh e =
+    let a : answer (lowOf v) bw bh ≡ 0 = sym (answer-is v bw bh) ∙ e in
+    let w = range-is (lowOf v) bw bh a in
+    rw (legal-is v bw bh a) (record { small = small (lowOf v); rules = ordinary (lowOf v) bw bh a .rules; range = omega (arith, w .most); fields = fields (lowOf v) bw bh a })
+
+-- in the form in which a caller has it
+pub valid-of : (p : Params) (v bw bh : ℕ) → p ≡ paramsOf v bw bh → p .answer ≡ 0 → Valid p bw bh
+valid-of p v bw bh e z = rw e (valid v bw bh (rw e at z))
+
+-- ---- that the definitions say what the document says
+-- a class is a quarter of the mode
+pub mode-class : (c x i : ℕ) → modeOf c x i / 4 ≡ classOf c i
+unfolding modeOf
+mode-class c x i = omega (arith, rest-most c x i)

@@ -1,0 +1,596 @@
+// The parameters of a block: its answer, its grid, its endpoint modes, its map.
+use bits::Block;
+ghost use mathlib.Core.Path.{_≡_};
+ghost use mathlib.Core.Bool.{Bool, true, false};
+ghost use Prim.Native.Nat.{_+_, _-_, _*_, _≤_, _<_};
+ghost use Rattle.bits.specs.Blocks.{valueOf};
+ghost use Rattle.sequence.specs.Ranges.{topOf};
+ghost use Rattle.params.specs.Ranges.{cost, widest};
+ghost use Rattle.params.specs.Widest.{Roomy, inverseOf, wholeBits};
+ghost use Rattle.params.specs.Config.{isVoid, isReserved, gridLow, gridHigh, gridOf, weightR, weightH, weightD, lacksDH, partsOf, numberOf, modeBase, classOf, restOf, modeOf, valuesTo, confLen, modeBits, configOf};
+ghost use Rattle.params.specs.Blocks.{listed, oneOf2, endVerdict, verdict, answer, used, extraLen, lowOf, endRange, mapOf, modeAt, channelOf, upperOf, legal, refused, paramsOf, extraOf};
+ghost use Rattle.params.specs.Bounds.{Small};
+
+pub struct Grid {
+    pub width: usize,
+    pub height: usize,
+}
+
+// What the low configuration says of a block whose mode is not reserved.
+pub struct Config {
+    pub width: usize,
+    pub height: usize,
+    pub range: usize,
+    pub planes: usize,
+    pub parts: usize,
+    pub values: usize,
+    pub lowlen: usize,
+    pub modebits: usize,
+    pub weightlen: usize,
+}
+
+pub struct Map {
+    pub top: usize,
+    pub lowlen: usize,
+    pub endat: usize,
+    pub endlen: usize,
+    pub extraat: usize,
+    pub extralen: usize,
+    pub weightat: usize,
+    pub weightlen: usize,
+}
+
+pub struct Params {
+    pub answer: usize,
+    pub config: Config,
+    pub channel: usize,
+    pub modes: [u8; 4],
+    pub number: usize,
+    pub range: usize,
+    pub map: Map,
+}
+
+// The largest value of the range of number q.
+fn top_of(q: usize) -> usize
+    requires { ⌜ q < 21 ⌝ }
+    ensures { λ r. ⌜ r ≡ topOf q ⌝ }
+{
+    if q == 0 {
+        return 1;
+    }
+    let m = q % 3;
+    if m == 2 {
+        return (4 << (q / 3)) - 1;
+    }
+    if m == 1 {
+        (3 << (q / 3)) - 1
+    } else {
+        (5 << (q / 3 - 1)) - 1
+    }
+}
+
+// The bits of n values of the range of number q.
+fn range_bits(q: usize, n: usize) -> usize
+    requires { ⌜ (q < 21) × (n ≤ 288) ⌝ }
+    ensures { λ r. ⌜ r ≡ cost q n ⌝ }
+{
+    sequence::total(sequence::range_of(q), n)
+}
+
+fn is_void(c: usize) -> bool
+    ensures { λ r. ⌜ r ≡ isVoid c ⌝ }
+{
+    c % 512 == 0x1fc
+}
+
+fn is_reserved(c: usize) -> bool
+    ensures { λ r. ⌜ r ≡ isReserved c ⌝ }
+{
+    if c % 16 == 0 {
+        return true;
+    }
+    if c % 4 == 0 {
+        return c / 64 % 8 == 7;
+    }
+    false
+}
+
+fn grid_high(c: usize) -> Grid
+    ensures { λ r. ⌜ r ≡ gridHigh c ⌝ }
+{
+    let a = c / 32 % 4;
+    let b = c / 128 % 4;
+    let s = c / 4 % 4;
+    if s == 0 {
+        return Grid {
+            width: b + 4,
+            height: a + 2,
+        };
+    }
+    if s == 1 {
+        return Grid {
+            width: b + 8,
+            height: a + 2,
+        };
+    }
+    if s == 2 {
+        return Grid {
+            width: a + 2,
+            height: b + 8,
+        };
+    }
+    if c / 256 % 2 == 0 {
+        Grid {
+            width: a + 2,
+            height: c / 128 % 2 + 6,
+        }
+    } else {
+        Grid {
+            width: c / 128 % 2 + 2,
+            height: a + 2,
+        }
+    }
+}
+
+fn grid_low(c: usize) -> Grid
+    ensures { λ r. ⌜ r ≡ gridLow c ⌝ }
+{
+    let a = c / 32 % 4;
+    let s = c / 128 % 4;
+    if s == 0 {
+        return Grid {
+            width: 12,
+            height: a + 2,
+        };
+    }
+    if s == 1 {
+        return Grid {
+            width: a + 2,
+            height: 12,
+        };
+    }
+    if s == 2 {
+        return Grid {
+            width: a + 6,
+            height: c / 512 % 4 + 6,
+        };
+    }
+    if c / 32 % 2 == 0 {
+        Grid {
+            width: 6,
+            height: 10,
+        }
+    } else {
+        Grid {
+            width: 10,
+            height: 6,
+        }
+    }
+}
+
+fn grid_of(c: usize) -> Grid
+    ensures { λ r. ⌜ r ≡ gridOf c ⌝ }
+{
+    if c % 4 == 0 {
+        grid_low(c)
+    } else {
+        grid_high(c)
+    }
+}
+
+fn r_of(c: usize) -> usize
+    ensures { λ r. ⌜ r ≡ weightR c ⌝ }
+{
+    let low = c % 4;
+    if low == 0 {
+        c / 16 % 2 + 2 * (c / 4 % 4)
+    } else {
+        c / 16 % 2 + 2 * low
+    }
+}
+
+fn lacks_dh(c: usize) -> bool
+    ensures { λ r. ⌜ r ≡ lacksDH c ⌝ }
+{
+    if c % 4 == 0 { c / 128 % 4 == 2 } else { false }
+}
+
+fn h_of(c: usize) -> usize
+    ensures { λ r. ⌜ r ≡ weightH c ⌝ }
+{
+    if lacks_dh(c) { 0 } else { c / 512 % 2 }
+}
+
+fn d_of(c: usize) -> usize
+    ensures { λ r. ⌜ r ≡ weightD c ⌝ }
+{
+    if lacks_dh(c) { 0 } else { c / 1024 % 2 }
+}
+
+fn parts_of(c: usize) -> usize
+    ensures { λ r. ⌜ r ≡ partsOf c ⌝ }
+{
+    c / 2048 % 4 + 1
+}
+
+// The partition number, 0 with one partition.
+fn number_of(c: usize) -> usize
+    ensures { λ r. ⌜ r ≡ numberOf c ⌝ }
+{
+    if parts_of(c) == 1 { 0 } else { c / 8192 % 1024 }
+}
+
+fn mode_base(c: usize) -> usize
+    ensures { λ r. ⌜ r ≡ modeBase c ⌝ }
+{
+    if parts_of(c) == 1 { 0 } else { c / 8388608 % 4 }
+}
+
+fn class_of(c: usize, i: usize) -> usize
+    requires { ⌜ i < 4 ⌝ }
+    ensures { λ r. ⌜ r ≡ classOf c i ⌝ }
+{
+    if parts_of(c) == 1 {
+        return c / 32768 % 4;
+    }
+    let base = mode_base(c);
+    if base == 0 {
+        return c / 134217728 % 4;
+    }
+    base - 1 + (c >> (25 + i)) % 2
+}
+
+fn count_values(c: usize, parts: usize) -> usize
+    requires { ⌜ parts ≤ 4 ⌝ }
+    ensures { λ r. ⌜ r ≡ valuesTo c parts ⌝ }
+{
+    let mut n = 0;
+    let mut i = 0;
+    while i < parts {
+        n += 2 * (class_of(c, i) + 1);
+        i += 1;
+    }
+    n
+}
+
+// The endpoint values of all partitions. One partition is the common case, and needs no loop.
+fn values_of(c: usize, parts: usize) -> usize
+    requires { ⌜ parts ≡ partsOf c ⌝ }
+    ensures { λ r. ⌜ r ≡ valuesTo c parts ⌝ }
+{
+    if parts == 1 {
+        return 2 * (c / 32768 % 4) + 2;
+    }
+    count_values(c, parts)
+}
+
+fn low_len(parts: usize) -> usize
+    ensures { λ r. ⌜ r ≡ confLen parts ⌝ }
+{
+    if parts == 1 { 17 } else { 29 }
+}
+
+fn mode_bits(c: usize) -> usize
+    ensures { λ r. ⌜ r ≡ modeBits c ⌝ }
+{
+    if mode_base(c) == 0 {
+        0
+    } else {
+        3 * parts_of(c) - 4
+    }
+}
+
+fn weights_of(g: Grid, planes: usize) -> usize
+    requires { ⌜ (g .width ≤ 12) × ((g .height ≤ 12) × (planes ≤ 2)) ⌝ }
+    ensures { λ r. ⌜ r ≡ g .width * g .height * planes ⌝ }
+{
+    g.width * g.height * planes
+}
+
+// What the low configuration c says.
+fn read_config(c: usize) -> Config
+    requires { ⌜ isReserved c ≡ false ⌝ }
+    ensures { λ r. ⌜ r ≡ configOf c ⌝ }
+{
+    let g = grid_of(c);
+    let range = r_of(c) - 2 + 6 * h_of(c);
+    let planes = 1 + d_of(c);
+    let parts = parts_of(c);
+    let weights = weights_of(g, planes);
+    Config {
+        width: g.width,
+        height: g.height,
+        range,
+        planes,
+        parts,
+        values: values_of(c, parts),
+        lowlen: low_len(parts),
+        modebits: mode_bits(c),
+        weightlen: range_bits(range, weights),
+    }
+}
+
+fn extra_len(k: Config) -> usize
+    requires { ⌜ Small k ⌝ }
+    ensures { λ r. ⌜ r ≡ extraLen k ⌝ }
+{
+    k.modebits + 2 * (k.planes - 1)
+}
+
+fn used_bits(k: Config) -> usize
+    requires { ⌜ Small k ⌝ }
+    ensures { λ r. ⌜ r ≡ used k ⌝ }
+{
+    k.lowlen + extra_len(k) + k.weightlen
+}
+
+// Rules 15 and 16.
+fn judge_ends(k: Config) -> usize
+    requires { ⌜ Small k ⌝ }
+    ensures { λ r. ⌜ r ≡ endVerdict k ⌝ }
+{
+    if 18 < k.values {
+        return 15;
+    }
+    if 128 < (13 * k.values + 4) / 5 + used_bits(k) {
+        return 16;
+    }
+    0
+}
+
+// Rules 11 to 16.
+fn judge(k: Config, bw: usize, bh: usize) -> usize
+    requires { ⌜ Small k ⌝ }
+    ensures { λ r. ⌜ r ≡ verdict k bw bh ⌝ }
+{
+    if bw < k.width {
+        return 11;
+    }
+    if bh < k.height {
+        return 11;
+    }
+    if 64 < k.width * k.height * k.planes {
+        return 12;
+    }
+    if k.weightlen < 24 {
+        return 13;
+    }
+    if 96 < k.weightlen {
+        return 13;
+    }
+    if k.planes == 2 {
+        if k.parts == 4 {
+            return 14;
+        }
+        return judge_ends(k);
+    }
+    judge_ends(k)
+}
+
+fn either(h: usize, a: usize, b: usize) -> bool
+    ensures { λ r. ⌜ r ≡ oneOf2 h a b ⌝ }
+{
+    if h == a { true } else { h == b }
+}
+
+// Whether a footprint is one of the fourteen.
+pub fn is_listed(w: usize, h: usize) -> bool
+    ensures { λ r. ⌜ r ≡ listed w h ⌝ }
+{
+    if w == 4 {
+        return h == 4;
+    }
+    if w == 5 {
+        return either(h, 4, 5);
+    }
+    if w == 6 {
+        return either(h, 5, 6);
+    }
+    if w == 8 {
+        if either(h, 5, 6) {
+            return true;
+        }
+        return h == 8;
+    }
+    if w == 10 {
+        if either(h, 5, 6) {
+            return true;
+        }
+        return either(h, 8, 10);
+    }
+    if w == 12 {
+        return either(h, 10, 12);
+    }
+    false
+}
+
+// 65536 / n, rounded up, by which a division of a room by n is a product.
+fn inverse(n: usize) -> usize
+    ensures { λ r. ⌜ (r ≡ inverseOf n) × (r ≤ 32768) ⌝ }
+{
+    match n {
+        2 => 32768,
+        4 => 16384,
+        6 => 10923,
+        8 => 8192,
+        10 => 6554,
+        12 => 5462,
+        14 => 4682,
+        16 => 4096,
+        _ => 3641,
+    }
+}
+
+// The whole bits of room that each of n values can have.
+fn whole_bits(n: usize, room: usize) -> usize
+    requires { ⌜ Roomy n room ⌝ }
+    ensures { λ r. ⌜ (r ≡ wholeBits n room) × ((2 ≤ r) × (r ≤ 64)) ⌝ }
+{
+    room * inverse(n) / 65536
+}
+
+// The widest range whose n values fit room bits. With k whole bits a value, three ranges can be it: trits with k - 1
+// bits, quints with k - 2, and plain ones with k.
+fn widest_range(n: usize, room: usize) -> usize
+    requires { ⌜ Roomy n room ⌝ }
+    ensures { λ r. ⌜ (r ≡ widest 16 n (128 - room)) × (r < 21) ⌝ }
+{
+    let k = whole_bits(n, room);
+    if 8 <= k {
+        return 20;
+    }
+    if (k - 1) * n + (n * 8 + 4) / 5 <= room {
+        return 3 * k - 2;
+    }
+    if (k - 2) * n + (n * 7 + 2) / 3 <= room {
+        return 3 * k - 3;
+    }
+    3 * k - 4
+}
+
+fn rest_of(c: usize, x: usize, i: usize) -> usize
+    requires { ⌜ (x < 1024) × (i < 4) ⌝ }
+    ensures { λ r. ⌜ r ≡ restOf c x i ⌝ }
+{
+    let parts = parts_of(c);
+    if parts == 1 {
+        return c / 8192 % 4;
+    }
+    if mode_base(c) == 0 {
+        return c / 33554432 % 4;
+    }
+    ((c / 33554432 % 16 + 16 * x) >> (parts + 2 * i)) % 4
+}
+
+fn mode_at(c: usize, x: usize, i: usize) -> u8
+    requires { ⌜ (x < 1024) × (i < 4) ⌝ }
+    ensures { λ r. ⌜ r ≡ modeAt c x i ⌝ }
+{
+    if i < parts_of(c) {
+        (4 * class_of(c, i) + rest_of(c, x, i)) as u8
+    } else {
+        0
+    }
+}
+
+// The range of the endpoint values: the widest for which the configuration and the weights leave room.
+fn end_range(k: Config) -> usize
+    requires { ⌜ Small k ⌝ ∗ ⌜ Roomy (k .values) (128 - used k) ⌝ ∗ ⌜ used k ≤ 128 ⌝ }
+    ensures { λ r. ⌜ (r ≡ endRange k) × (r < 21) ⌝ }
+{
+    widest_range(k.values, 128 - used_bits(k))
+}
+
+fn map_of(k: Config, range: usize) -> Map
+    requires { ⌜ Small k ⌝ ∗ ⌜ used k ≤ 128 ⌝ ∗ ⌜ range ≡ endRange k ⌝ ∗ ⌜ range < 21 ⌝ }
+    ensures { λ r. ⌜ r ≡ mapOf k ⌝ }
+{
+    let extra = extra_len(k);
+    let weight = k.weightlen;
+    Map {
+        top: top_of(range),
+        lowlen: k.lowlen,
+        endat: k.lowlen,
+        endlen: range_bits(range, k.values),
+        extraat: 128 - (weight + extra),
+        extralen: extra,
+        weightat: 128 - weight,
+        weightlen: weight,
+    }
+}
+
+fn low_config(b: Block) -> usize
+    ensures { λ r. ⌜ r ≡ lowOf (valueOf b) ⌝ }
+{
+    let parts = bits::getbits(b, 11, 2) as usize + 1;
+    let len = low_len(parts);
+    bits::getbits(b, 0, len) as usize
+}
+
+// The parameters of a legal block: c is its low configuration, k what that says.
+fn accept(b: Block, c: usize, k: Config) -> Params
+    requires { ⌜ k ≡ configOf c ⌝ ∗ ⌜ Small k ⌝ ∗ ⌜ Roomy (k .values) (128 - used k) ⌝ ∗ ⌜ used k ≤ 128 ⌝ }
+    ensures { λ r. ⌜ r ≡ legal c (extraOf (mapOf (configOf c)) (valueOf b)) ⌝ }
+{
+    let range = end_range(k);
+    let map = map_of(k, range);
+    let e = bits::getbits(b, map.extraat, map.extralen) as usize;
+    let channel = channel_of(k.planes, e);
+    let x = upper_of(k.planes, e);
+    let modes = [
+        mode_at(c, x, 0),
+        mode_at(c, x, 1),
+        mode_at(c, x, 2),
+        mode_at(c, x, 3),
+    ];
+    Params {
+        answer: 0,
+        config: k,
+        channel,
+        modes,
+        number: number_of(c),
+        range,
+        map,
+    }
+}
+
+fn channel_of(planes: usize, e: usize) -> usize
+    ensures { λ r. ⌜ r ≡ channelOf planes e ⌝ }
+{
+    if planes == 2 { e % 4 } else { 0 }
+}
+
+fn upper_of(planes: usize, e: usize) -> usize
+    ensures { λ r. ⌜ r ≡ upperOf planes e ⌝ }
+{
+    if planes == 2 { e / 4 } else { e }
+}
+
+fn refuse(answer: usize) -> Params
+    ensures { λ r. ⌜ r ≡ refused answer ⌝ }
+{
+    Params {
+        answer,
+        config: Config {
+            width: 0,
+            height: 0,
+            range: 0,
+            planes: 0,
+            parts: 0,
+            values: 0,
+            lowlen: 0,
+            modebits: 0,
+            weightlen: 0,
+        },
+        channel: 0,
+        modes: [0, 0, 0, 0],
+        number: 0,
+        range: 0,
+        map: Map {
+            top: 0,
+            lowlen: 0,
+            endat: 0,
+            endlen: 0,
+            extraat: 0,
+            extralen: 0,
+            weightat: 0,
+            weightlen: 0,
+        },
+    }
+}
+
+// The parameters of the block b at the footprint bw x bh.
+pub fn decode_block_params(b: Block, bw: usize, bh: usize) -> Params
+    ensures { λ r. ⌜ r ≡ paramsOf (valueOf b) bw bh ⌝ }
+{
+    let c = low_config(b);
+    if is_void(c) {
+        return refuse(1);
+    }
+    if is_reserved(c) {
+        return refuse(10);
+    }
+    let k = read_config(c);
+    let a = judge(k, bw, bh);
+    if a == 0 { accept(b, c, k) } else { refuse(a) }
+}

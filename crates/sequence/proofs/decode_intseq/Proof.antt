@@ -1,0 +1,27 @@
+-- The sequence is cut out of the block, and decoded.
+use mathlib.Core.Path.{_≡_}
+use Prim.Native.Nat.{_-_}
+use Rattle.bits.specs.Bits.{bitsAt}
+use Rattle.bits.specs.Blocks.{valueOf}
+use Rattle.sequence.specs.Sequence.{totalOf}
+use borrow.Author.Needs.{needs}
+use Rattle.sequence.proofs.decode_intseq.Statement.{statement}
+use Rattle.sequence.proofs.decode_intseq.Tie as tie
+
+total-requires : tie.Need-total-requires
+total-requires c κs = search needs
+
+cut-requires : tie.Need-cut-requires
+cut-requires c κs = search needs
+
+decode-requires : tie.Need-decode-requires
+decode-requires c κs = search needs
+
+returns : tie.Need-returns
+returns c = let a = c .before .before .before .before .args in
+    let n : c .before .before .total .result ≡ totalOf (a .r) (a .n) = c .before .before .total .ensures in
+    let v : valueOf (c .before .cut .result) ≡ bitsAt (valueOf (a .block)) (a .offset) (totalOf (a .r) (a .n)) = rw n at (c .before .cut .ensures) in
+    rw v at (c .decode .ensures)
+
+pub decode-intseq-spec : {M : Type 1} → statement M
+decode-intseq-spec = tie.close (tie.spec total-requires cut-requires decode-requires returns)

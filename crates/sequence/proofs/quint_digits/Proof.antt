@@ -1,0 +1,60 @@
+-- The gathered bits are the group's place in the table, whose entry has its digits.
+use mathlib.Core.Path.{ap, _∙_}
+use Prim.Native.Nat.{ℕ, _-_}
+use lib.ListN.{getD}
+use Rattle.sequence.specs.Digits.{quintTable}
+use Rattle.sequence.specs.DigitLaws.{quint-entry}
+use Rattle.sequence.specs.GroupLaws.{quint-place}
+use borrow.Author.Needs.{needs}
+use Rattle.sequence.proofs.quint_digits.Statement.{statement}
+use Rattle.sequence.proofs.quint_digits.Tie as tie
+
+shr-d1 : tie.Need-shr-d1
+shr-d1 c = search needs
+
+shr-d2 : tie.Need-shr-d2
+shr-d2 c = search needs
+
+shr-d3 : tie.Need-shr-d3
+shr-d3 c = search needs
+
+mul-x : tie.Need-mul-x
+mul-x c = search needs
+
+add-x : tie.Need-add-x
+add-x c = search needs
+
+mul-x-2 : tie.Need-mul-x-2
+mul-x-2 c = search needs
+
+add-x-2 : tie.Need-add-x-2
+add-x-2 c = search needs
+
+mul-wide : tie.Need-mul-wide
+mul-wide c = search needs
+
+element-copy-out-wide : tie.Need-element-copy-out-wide
+element-copy-out-wide c = search needs
+
+wide-requires : tie.Need-wide-requires
+wide-requires c κs = search needs
+
+returns : tie.Need-returns
+returns c = let s = c .before .before in
+    c .wide .ensures ∙ rw (s .pre .0) (ap (λ (x : ℕ). getD quintTable x 0) (quint-place (s .args .b) (s .args .d)) ∙ quint-entry (s .args .b) (s .args .d))
+
+pub quint-digits-spec : {M : Type 1} → statement M
+quint-digits-spec =
+    tie.close
+    (tie.spec
+    shr-d1
+    shr-d2
+    shr-d3
+    mul-x
+    add-x
+    mul-x-2
+    add-x-2
+    mul-wide
+    element-copy-out-wide
+    wide-requires
+    returns)

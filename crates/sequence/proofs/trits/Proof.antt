@@ -1,0 +1,15 @@
+-- One test over all 256 entries: each has the digits that the standard's rule unpacks.
+use mathlib.Core.Path.{refl}
+use Prim.Native.Nat.{ℕ, _-_}
+use Rattle.laws.specs.Lists.{tested}
+use Rattle.bits.specs.Bits.{bitsAt}
+use Rattle.sequence.specs.Digits.{pair, lowTrits, trits, packed, tritTable}
+use Rattle.sequence.proofs.trits.Statement.{statement}
+use Rattle.sequence.proofs.trits.Tie as tie
+
+returns : tie.Need-returns
+unfolding bitsAt pair lowTrits trits packed tritTable
+returns c = tested (λ (x : ℕ). packed (trits x)) 256 _ refl tt
+
+pub trits-spec : {M : Type 1} → statement M
+trits-spec = tie.close (tie.spec returns)

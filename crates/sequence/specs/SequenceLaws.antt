@@ -1,0 +1,110 @@
+-- The laws of ranges and of decoded sequences.
+-- Assumes nothing.
+use mathlib.Core.Path.{_≡_, sym, ap, _∙_}
+use mathlib.Core.Bool.{Bool, cond}
+use Prim.Native.Nat.{ℕ, _+_, _*_, _-_, _^_, _≤_, _<_}
+use native.Mathlib.Nat.{le-trans, mul-le-mul, mul-pos, zero-add}
+use native.Mathlib.Omega.{arith}
+use native.Mathlib.Decide.{decLt}
+use lib.Arith.{digits-lt}
+use lib.Pow.{pow-pos}
+use lib.Dec.{ltb, eqb, eqb→eq, leb, leb→le, lit<, lit≤}
+use lib.ListN.{length, getD, List·getD-eq-default}
+use borrow.Author.Tests.{lt-ltb, le-ltb}
+use Rattle.laws.specs.Table.{all-at}
+use Rattle.laws.specs.Lists.{length-listOf, getD-listOf}
+use Rattle.bits.specs.Bits.{bitsAt, reversed}
+use Rattle.bits.specs.BitLaws.{bits-lt, same-bits, reversed-top}
+use Rattle.sequence.specs.Ranges.{range, ranges, rangeOf, base, levels, most, tops, topOf}
+use Rattle.sequence.specs.Sequence.{totalOf, valueIn, valueAt, valuesOf}
+use Rattle.sequence.specs.DigitLaws.{digit-lt}
+use Rattle.sequence.specs.declared.Kind.{Kind}
+use Rattle.sequence.specs.declared.Kind.the-variants.{Plain, Trits, Quints}
+use Rattle.sequence.specs.declared.Range.{Range}
+
+-- ---- ranges, by tests of all 21
+
+topTest : ℕ → Bool
+unfolding levels rangeOf ranges topOf tops
+topTest q = eqb (levels (rangeOf q)) (topOf q + 1)
+
+-- a range's values are 0 to its largest
+pub levels-top : (q : ℕ) → q < 21 → levels (rangeOf q) ≡ topOf q + 1
+unfolding topTest
+levels-top q h = eqb→eq (levels (rangeOf q)) (topOf q + 1) (all-at topTest 21 tt q h)
+
+legalTest : ℕ → Bool
+unfolding rangeOf ranges
+legalTest q = leb (rangeOf q .bits) (most (rangeOf q .kind))
+
+pub legal : (q : ℕ) → q < 21 → rangeOf q .bits ≤ most (rangeOf q .kind)
+unfolding legalTest
+legal q h = leb→le (rangeOf q .bits) (most (rangeOf q .kind)) (all-at legalTest 21 tt q h)
+
+most-le : (k : Kind) → most k ≤ 8
+most-le Plain = lit≤ tt
+most-le Trits = lit≤ tt
+most-le Quints = lit≤ tt
+
+-- the plain bits of some values
+pub bits-le : (r : Range) (n m : ℕ) → r .bits ≤ most (r .kind) → n ≤ m → n * r .bits ≤ m * 8
+bits-le r n m h l = mul-le-mul l (le-trans h (most-le (r .kind)))
+
+-- ---- a decoded sequence
+
+base-pos : (k : Kind) → 0 < base k
+base-pos Plain = lit< tt
+base-pos Trits = lit< tt
+base-pos Quints = lit< tt
+
+value-lt : (r : Range) (w i : ℕ) → valueAt r w i < base (r .kind) * 2 ^ (r .bits)
+unfolding valueAt valueIn
+value-lt r w i = digits-lt (digit-lt (r .kind) (r .bits) _ _) (bits-lt _ _ (r .bits))
+
+module _ (r : Range) (w n : ℕ) where
+  pub length-values : length (valuesOf r w n) ≡ 72
+  unfolding valuesOf
+  length-values = length-listOf (λ (i : ℕ). cond (ltb i n) (valueAt r w i) 0) 0 72
+
+  values-at : (i : ℕ) → i < 72 → getD (valuesOf r w n) i 0 ≡ cond (ltb i n) (valueAt r w i) 0
+  unfolding valuesOf
+  values-at i h =
+      getD-listOf (λ (i : ℕ). cond (ltb i n) (valueAt r w i) 0) 0 72 i h
+      ∙ ap (λ (i : ℕ). cond (ltb i n) (valueAt r w i) 0) (zero-add i)
+
+  pub values-before : (i : ℕ) → i < 72 → i < n → getD (valuesOf r w n) i 0 ≡ valueAt r w i
+  values-before i h l = values-at i h ∙ rw (lt-ltb i n l)
+
+  pub values-past : (i : ℕ) → n ≤ i → getD (valuesOf r w n) i 0 ≡ 0
+  values-past i l = past (decLt i 72)
+    where
+      past : Dec (i < 72) → getD (valuesOf r w n) i 0 ≡ 0
+      past (yes h) = values-at i h ∙ rw (le-ltb i n l)
+      past (no h) = List·getD-eq-default (valuesOf r w n) 0 (rw length-values (omega arith))
+
+  -- every entry is a value of the range
+  pub values-lt : (i : ℕ) → getD (valuesOf r w n) i 0 < levels r
+  unfolding levels
+  values-lt i = entry (decLt i n) (decLt i 72)
+    where
+      some : 0 < base (r .kind) * 2 ^ (r .bits)
+      some = mul-pos (base-pos (r .kind)) (pow-pos (r .bits))
+
+      entry : Dec (i < n) → Dec (i < 72) → getD (valuesOf r w n) i 0 < base (r .kind) * 2 ^ (r .bits)
+      entry (yes l) (yes h) = rw (values-before i h l) (value-lt r w i)
+      entry (yes l) (no h) = rw (List·getD-eq-default (valuesOf r w n) 0 {n = i} (rw length-values (omega arith))) some
+      entry (no l) h = rw (values-past i (omega arith)) some
+
+-- a sequence depends on its own bits alone
+pub same-values : (r : Range) (n s v v′ : ℕ) → ((i : ℕ) → s ≤ i → i < s + totalOf r n → bitsAt v i 1 ≡ bitsAt v′ i 1)
+    → valuesOf r (bitsAt v s (totalOf r n)) n ≡ valuesOf r (bitsAt v′ s (totalOf r n)) n
+same-values r n s v v′ h = ap (λ (w : ℕ). valuesOf r w n) (same-bits v v′ s (totalOf r n) h)
+
+-- downwards from a number's end: on the top bits
+pub same-down : (r : Range) (n m v v′ : ℕ) → totalOf r n ≤ m → ((i : ℕ) → m - totalOf r n ≤ i → i < m → bitsAt v i 1 ≡ bitsAt v′ i 1)
+    → valuesOf r (bitsAt (reversed m v) 0 (totalOf r n)) n ≡ valuesOf r (bitsAt (reversed m v′) 0 (totalOf r n)) n
+same-down r n m v v′ l h =
+    ap (λ (w : ℕ). valuesOf r w n)
+    (reversed-top m (totalOf r n) v l
+    ∙ ap (λ (x : ℕ). reversed (totalOf r n) x) (same-bits v v′ (m - totalOf r n) (totalOf r n) (λ i p q. h i p (omega arith)))
+    ∙ sym (reversed-top m (totalOf r n) v′ l))

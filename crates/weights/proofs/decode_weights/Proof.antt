@@ -1,0 +1,50 @@
+-- Each way out is what the callee promises.
+use mathlib.Core.Path.{refl}
+use Prim.Native.Nat.{_*_, _≤_}
+use native.Mathlib.Omega.{arith}
+use borrow.Author.Needs.{needs}
+use native.Mathlib.Nat.{mul-le-mul}
+use Rattle.weights.specs.InfillLaws.{sides-in}
+use Rattle.weights.specs.DecodeLaws.{wide-true}
+use Rattle.weights.proofs.decode_weights.Statement.{statement}
+use Rattle.weights.proofs.decode_weights.Tie as tie
+
+mul-n : tie.Need-mul-n
+mul-n c =
+    let s = c .before in
+    let l : s .args .g .width * s .args .g .height ≤ 12 * 12 =
+    mul-le-mul {n₂ = 12} {m₂ = 12} (omega (arith, s .pre .fits .wide, sides-in (s .pre .fits))) (omega (arith, s .pre .fits .high, sides-in (s .pre .fits))) in
+    omega arith
+
+mul-n-2 : tie.Need-mul-n-2
+mul-n-2 c = search needs
+
+is-wide-requires : tie.Need-is-wide-requires
+is-wide-requires c κs = search needs
+
+decode-wide-requires : tie.Need-decode-wide-requires
+decode-wide-requires c κs =
+    let s = c .before .before .before .before .before in
+    let w = wide-true (s .args .g) (rw (c .before .before .is-wide .ensures) at (c .before .if1 .taken)) in
+    (s .pre, refl, w .0, w .1)
+
+returns : tie.Need-returns
+returns c = search needs
+
+decode-any-requires : tie.Need-decode-any-requires
+decode-any-requires c κs = search needs
+
+returns-2 : tie.Need-returns-2
+returns-2 c = search needs
+
+pub decode-weights-spec : {M : Type 1} → statement M
+decode-weights-spec =
+    tie.close
+    (tie.spec
+    mul-n
+    mul-n-2
+    is-wide-requires
+    decode-wide-requires
+    returns
+    decode-any-requires
+    returns-2)

@@ -1,0 +1,52 @@
+-- What callers need of the weights: their number, that each is at most 64, and which entry is which texel's.
+-- Assumes nothing.
+use mathlib.Core.Path.{_≡_, _∙_}
+use mathlib.Core.Bool.{Bool, true, false, cond, _&&_}
+use mathlib.Core.List.{List}
+use Prim.Native.Nat.{ℕ, _*_, _/_, _%_, _≤_, _<_, zero-le}
+use native.Mathlib.Nat.{zero-add, mod-lt}
+use native.Mathlib.Omega.{arith}
+use native.Mathlib.Decide.{decLt}
+use lib.Dec.{ltb}
+use lib.ListN.{length, getD}
+use Rattle.laws.specs.Lists.{length-listOf, getD-listOf, getD-past}
+use Rattle.weights.specs.Infill.{infillAt, texelOf, infillOf, gridOf, weightAt, weightsOf}
+use Rattle.weights.specs.Given.{Encoded}
+use Rattle.weights.specs.WeightLaws.{weight-le}
+use Rattle.weights.specs.InfillLaws.{infilled-le, factors-total, four-le}
+use Rattle.weights.specs.declared.Grid.{Grid}
+
+-- what bounds the grid's weights bounds the texels'
+pub infill-le : (g : Grid) (at : ℕ → ℕ) (b p s t : ℕ) → ((k : ℕ) → at k ≤ b) → infillAt g at p s t ≤ b
+unfolding infillAt
+infill-le g at b p s t h = infilled-le b _ _ (factors-total _ _ (mod-lt _ (omega arith)) (mod-lt _ (omega arith))) (four-le (h _) (h _) (h _) (h _))
+
+pub texel-le : (g : Grid) (at : ℕ → ℕ) (b p i : ℕ) → ((k : ℕ) → at k ≤ b) → texelOf g at p i ≤ b
+unfolding texelOf
+texel-le g at b p i h = either (ltb p (g .planes) && ltb i (g .bw * g .bh))
+  where
+    either : (c : Bool) → cond c (infillAt g at p (i % g .bw) (i / g .bw)) 0 ≤ b
+    either true = infill-le g at b p (i % g .bw) (i / g .bw) h
+    either false = zero-le
+
+pub weights-length : (g : Grid) (q : ℕ) (seq : List ℕ) → length (weightsOf g q seq) ≡ 288
+unfolding weightsOf infillOf
+weights-length g q seq = length-listOf _ 0 288
+
+-- entry i is the first plane's weight of texel i, entry 144 + i the second's
+pub weights-entry : (g : Grid) (q : ℕ) (seq : List ℕ) (i : ℕ) → i < 288 → getD (weightsOf g q seq) i 0 ≡ weightAt g q seq (i / 144) (i % 144)
+unfolding weightsOf infillOf weightAt
+weights-entry g q seq i h = getD-listOf (λ (i : ℕ). texelOf g (gridOf q seq) (i / 144) (i % 144)) 0 288 i h ∙ rw (zero-add i)
+
+module _ (g : Grid) (q : ℕ) (seq : List ℕ) (enc : Encoded g q seq) where
+  pub weightAt-le : (p i : ℕ) → weightAt g q seq p i ≤ 64
+  unfolding weightAt gridOf
+  weightAt-le p i = texel-le g (gridOf q seq) 64 p i (λ k. weight-le q (getD seq k 0) (enc .range) (enc .below k))
+
+  -- every entry is at most 64
+  pub weights-le : (i : ℕ) → getD (weightsOf g q seq) i 0 ≤ 64
+  weights-le i = at (decLt i 288)
+    where
+      at : Dec (i < 288) → getD (weightsOf g q seq) i 0 ≤ 64
+      at (yes h) = rw (weights-entry g q seq i h) (weightAt-le (i / 144) (i % 144))
+      at (no h) = rw (getD-past (weightsOf g q seq) 288 i (weights-length g q seq) (omega arith)) zero-le
