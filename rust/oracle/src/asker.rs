@@ -45,11 +45,19 @@ impl Asker {
             .map_err(|e| format!("{program} was not started: {e}"))?;
         let requests = Some(BufWriter::new(child.stdin.take().unwrap()));
         let answers = BufReader::new(child.stdout.take().unwrap());
-        Ok(Asker { child, requests, answers })
+        Ok(Asker {
+            child,
+            requests,
+            answers,
+        })
     }
 
     /// Sends all requests while it reads the answers, and hands each pair to `each`.
-    pub fn ask(&mut self, requests: &[Request], mut each: impl FnMut(&Request, &[u8; ANSWER])) -> Result<(), String> {
+    pub fn ask(
+        &mut self,
+        requests: &[Request],
+        mut each: impl FnMut(&Request, &[u8; ANSWER]),
+    ) -> Result<(), String> {
         let mut sink = self.requests.take().unwrap();
         let answers = &mut self.answers;
         let sink = std::thread::scope(|scope| {
@@ -62,10 +70,15 @@ impl Asker {
             });
             let mut answer = [0; ANSWER];
             for r in requests {
-                answers.read_exact(&mut answer).map_err(|e| format!("the program stopped answering: {e}"))?;
+                answers
+                    .read_exact(&mut answer)
+                    .map_err(|e| format!("the program stopped answering: {e}"))?;
                 each(r, &answer);
             }
-            writer.join().unwrap().map_err(|e| format!("the program stopped reading: {e}"))
+            writer
+                .join()
+                .unwrap()
+                .map_err(|e| format!("the program stopped reading: {e}"))
         })?;
         self.requests = Some(sink);
         Ok(())

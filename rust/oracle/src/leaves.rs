@@ -28,21 +28,37 @@ struct Tally {
 
 impl Tally {
     fn new(name: &'static str) -> Self {
-        Tally { name, compared: 0, differences: 0 }
+        Tally {
+            name,
+            compared: 0,
+            differences: 0,
+        }
     }
 
-    fn same<T: PartialEq + std::fmt::Debug>(&mut self, request: &Request, what: &str, ours: T, theirs: T) {
+    fn same<T: PartialEq + std::fmt::Debug>(
+        &mut self,
+        request: &Request,
+        what: &str,
+        ours: T,
+        theirs: T,
+    ) {
         self.compared += 1;
         if ours != theirs {
             self.differences += 1;
             if self.differences <= 3 {
-                println!("  {}: {what}: ours {ours:?}, original's {theirs:?}, at {:02x?}", self.name, request.0);
+                println!(
+                    "  {}: {what}: ours {ours:?}, original's {theirs:?}, at {:02x?}",
+                    self.name, request.0
+                );
             }
         }
     }
 
     fn end(self) -> bool {
-        println!("{}: {} compared, {} differences", self.name, self.compared, self.differences);
+        println!(
+            "{}: {} compared, {} differences",
+            self.name, self.compared, self.differences
+        );
         assert!(self.compared > 0, "a comparison of nothing shows nothing");
         self.differences == 0
     }
@@ -95,15 +111,27 @@ fn compare_bits(asker: &mut Asker, random: &mut Random, samples: u64) -> Result<
         let field = bitreader::getbits64(r.block(), r.number(0) as isize, r.number(1));
         tally.same(r, "field", u64_at(a, 0), field);
         let word = |i: usize| u64::from_le_bytes(r.block()[i..i + 8].try_into().unwrap());
-        tally.same(r, "low word reversed", u64_at(a, 8), probe::reversed(word(8), 64));
-        tally.same(r, "high word reversed", u64_at(a, 16), probe::reversed(word(0), 64));
+        tally.same(
+            r,
+            "low word reversed",
+            u64_at(a, 8),
+            probe::reversed(word(8), 64),
+        );
+        tally.same(
+            r,
+            "high word reversed",
+            u64_at(a, 16),
+            probe::reversed(word(0), 64),
+        );
     })?;
     Ok(tally.end())
 }
 
 /// Every entry of the three tables. The original's digits are those of a group with no plain bits.
 fn compare_tables(asker: &mut Asker) -> Result<bool, String> {
-    let requests: Vec<_> = (0..256).map(|i| Request::new(TABLES, &[i], [0; 16])).collect();
+    let requests: Vec<_> = (0..256)
+        .map(|i| Request::new(TABLES, &[i], [0; 16]))
+        .collect();
     let digits = |a: usize, count: usize, x: usize| -> u16 {
         let values = probe::intseq(&with_value(0, x), 0, a, 0, count, false);
         values.iter().rev().fold(0, |n, v| n * 8 + v.0 as u16)
@@ -131,7 +159,11 @@ fn compare_sequences(asker: &mut Asker, random: &mut Random, samples: u64) -> Re
                     continue;
                 }
                 for _ in 0..(samples / 1000).max(1) {
-                    requests.push(Request::new(SEQUENCE, &[q, n, offset, down], random.block()));
+                    requests.push(Request::new(
+                        SEQUENCE,
+                        &[q, n, offset, down],
+                        random.block(),
+                    ));
                 }
             }
         }
@@ -142,7 +174,11 @@ fn compare_sequences(asker: &mut Asker, random: &mut Random, samples: u64) -> Re
         let (digit, bits) = kind(q);
         let offset = if down { 128 } else { r.number(2) };
         let mut values = [0; 72];
-        for (place, v) in values.iter_mut().zip(probe::intseq(r.block(), offset, digit, bits, n, down)) {
+        for (place, v) in
+            values
+                .iter_mut()
+                .zip(probe::intseq(r.block(), offset, digit, bits, n, down))
+        {
             *place = ((v.0 << bits) + v.1) as u8;
         }
         tally.same(r, "values", &a[..72], &values[..]);
@@ -152,7 +188,9 @@ fn compare_sequences(asker: &mut Asker, random: &mut Random, samples: u64) -> Re
 
 /// All 65,536 halves.
 fn compare_halves(asker: &mut Asker) -> Result<bool, String> {
-    let requests: Vec<_> = (0..4096).map(|k| Request::new(HALVES, &[k * 16 % 256, k / 16], [0; 16])).collect();
+    let requests: Vec<_> = (0..4096)
+        .map(|k| Request::new(HALVES, &[k * 16 % 256, k / 16], [0; 16]))
+        .collect();
     let pattern = |f: f32| if f.is_nan() { u32::MAX } else { f.to_bits() };
     let mut tally = Tally::new("halves");
     asker.ask(&requests, |r, a| {
@@ -177,10 +215,18 @@ fn expected_params(block: &[u8], bw: usize, bh: usize) -> [u8; 26] {
     let planes = if p.dual_plane { 2 } else { 1 };
     let values = p.endpoint_value_num;
     let low = if p.part_num == 1 { 17 } else { 29 };
-    let base = if p.part_num == 1 { 0 } else { block[2] as usize / 128 + block[3] as usize % 2 * 2 };
+    let base = if p.part_num == 1 {
+        0
+    } else {
+        block[2] as usize / 128 + block[3] as usize % 2 * 2
+    };
     let mode_bits = if base == 0 { 0 } else { 3 * p.part_num - 4 };
     let weight_bits = model::cost(range, p.weight_num);
-    let number = if p.part_num == 1 { 0 } else { u32::from_le_bytes(block[..4].try_into().unwrap()) >> 13 & 0x3ff };
+    let number = if p.part_num == 1 {
+        0
+    } else {
+        u32::from_le_bytes(block[..4].try_into().unwrap()) >> 13 & 0x3ff
+    };
     let ends = 20 - p.cem_range;
     let extra = mode_bits + 2 * (planes - 1);
     let numbers = [
@@ -230,7 +276,11 @@ fn compare_params(asker: &mut Asker, random: &mut Random, samples: u64) -> Resul
             requests.push(Request::new(PARAMS, &[bw, bh], block));
         }
         for _ in 0..samples / 4 {
-            requests.push(Request::new(PARAMS, &[bw, bh], model::likely(random, bw, bh)));
+            requests.push(Request::new(
+                PARAMS,
+                &[bw, bh],
+                model::likely(random, bw, bh),
+            ));
         }
     }
     let mut tally = Tally::new("parameters");
@@ -266,18 +316,28 @@ fn compare_endpoints(asker: &mut Asker, random: &mut Random, samples: u64) -> Re
     let mut requests = vec![];
     for q in 4..21 {
         for v in 0..=TOPS[q] {
-            requests.push(Request::new(ENDPOINTS, &[1, 0, 0, 0, 0, q], with_value(17, v)));
+            requests.push(Request::new(
+                ENDPOINTS,
+                &[1, 0, 0, 0, 0, q],
+                with_value(17, v),
+            ));
         }
     }
     while requests.len() < 1192 + 10 * samples as usize {
         let parts = 1 + random.below(4);
-        let modes: Vec<usize> = (0..4).map(|i| if i < parts { random.below(16) } else { 0 }).collect();
+        let modes: Vec<usize> = (0..4)
+            .map(|i| if i < parts { random.below(16) } else { 0 })
+            .collect();
         let n: usize = modes[..parts].iter().map(|&m| values_of(m)).sum();
         let q = 4 + random.below(17);
         if n > 18 || model::cost(q, n) + 29 > 128 {
             continue;
         }
-        requests.push(Request::new(ENDPOINTS, &[parts, modes[0], modes[1], modes[2], modes[3], q], random.block()));
+        requests.push(Request::new(
+            ENDPOINTS,
+            &[parts, modes[0], modes[1], modes[2], modes[3], q],
+            random.block(),
+        ));
     }
     let mut tally = Tally::new("endpoints");
     let mut sevens = [false; 16];
@@ -293,7 +353,12 @@ fn compare_endpoints(asker: &mut Asker, random: &mut Random, samples: u64) -> Re
             tally.same(r, "endpoints", &ours[..], &theirs[p][..]);
             let hdr = [2, 3, 7, 11, 14, 15].contains(&cem[p]);
             let hdr_alpha = hdr && cem[p] != 14;
-            tally.same(r, "marks", [a[18 * p + 16], a[18 * p + 17]], [hdr as u8, hdr_alpha as u8]);
+            tally.same(
+                r,
+                "marks",
+                [a[18 * p + 16], a[18 * p + 17]],
+                [hdr as u8, hdr_alpha as u8],
+            );
         }
         // in the widest range the encoded values are the bytes themselves: which sub-modes were there
         if q == 20 && parts == 1 {
@@ -306,8 +371,14 @@ fn compare_endpoints(asker: &mut Asker, random: &mut Random, samples: u64) -> Re
             }
         }
     })?;
-    assert!(sevens.iter().all(|&s| s), "a sub-mode of mode 7 was not compared");
-    assert!(elevens.iter().all(|&s| s), "a sub-mode or major component of mode 11 was not compared");
+    assert!(
+        sevens.iter().all(|&s| s),
+        "a sub-mode of mode 7 was not compared"
+    );
+    assert!(
+        elevens.iter().all(|&s| s),
+        "a sub-mode or major component of mode 11 was not compared"
+    );
     Ok(tally.end())
 }
 
@@ -325,14 +396,26 @@ fn compare_weights(asker: &mut Asker, random: &mut Random, samples: u64) -> Resu
     for (bw, bh) in FOOTPRINTS {
         for (width, height, planes, q) in grids(bw, bh) {
             for _ in 0..each {
-                requests.push(Request::new(WEIGHTS, &[bw, bh, width, height, planes, q], random.block()));
+                requests.push(Request::new(
+                    WEIGHTS,
+                    &[bw, bh, width, height, planes, q],
+                    random.block(),
+                ));
             }
         }
     }
     let mut tally = Tally::new("weights");
     asker.ask(&requests, |r, a| {
         let [bw, bh, width, height, planes, q] = [0, 1, 2, 3, 4, 5].map(|i| r.number(i));
-        let theirs = probe::weights(r.block(), bw, bh, width, height, planes == 2, weight_range(q));
+        let theirs = probe::weights(
+            r.block(),
+            bw,
+            bh,
+            width,
+            height,
+            planes == 2,
+            weight_range(q),
+        );
         let mut all = [0; 288];
         for i in 0..bw * bh {
             all[i] = theirs[i][0] as u8;
@@ -370,13 +453,18 @@ fn compare_partitions(asker: &mut Asker) -> Result<bool, String> {
         for parts in 2..=4 {
             for number in 0..1024 {
                 let block = with_value(13, number);
-                requests.push(Request::new(PARTITION, &[number % 256, number / 256, parts, bw, bh], block));
+                requests.push(Request::new(
+                    PARTITION,
+                    &[number % 256, number / 256, parts, bw, bh],
+                    block,
+                ));
             }
         }
     }
     let mut tally = Tally::new("partitions");
     asker.ask(&requests, |r, a| {
-        let theirs = probe::partition(r.block(), r.number(3), r.number(4), r.number(2)).map(|p| p as u8);
+        let theirs =
+            probe::partition(r.block(), r.number(3), r.number(4), r.number(2)).map(|p| p as u8);
         tally.same(r, "partition", &a[..144], &theirs[..]);
     })?;
     Ok(tally.end())
@@ -384,7 +472,9 @@ fn compare_partitions(asker: &mut Asker) -> Result<bool, String> {
 
 /// All LDR pairs at all weights, and samples of pairs up to 286 and of HDR pairs.
 fn compare_blends(asker: &mut Asker, random: &mut Random, samples: u64) -> Result<bool, String> {
-    let pair = |v0: usize, v1: usize| Request::new(BLEND, &[v0 % 256, v0 / 256, v1 % 256, v1 / 256], [0; 16]);
+    let pair = |v0: usize, v1: usize| {
+        Request::new(BLEND, &[v0 % 256, v0 / 256, v1 % 256, v1 / 256], [0; 16])
+    };
     let mut requests = vec![];
     for v0 in 0..256 {
         for v1 in 0..256 {
@@ -404,10 +494,23 @@ fn compare_blends(asker: &mut Asker, random: &mut Random, samples: u64) -> Resul
         let v1 = r.number(2) + 256 * r.number(3);
         let top = v0.max(v1);
         let all = |limit: usize, f: fn(i32, i32, i32) -> u8| -> Vec<u8> {
-            (0..=64).map(|w| if top <= limit { f(v0 as i32, v1 as i32, w) } else { 0 }).collect()
+            (0..=64)
+                .map(|w| {
+                    if top <= limit {
+                        f(v0 as i32, v1 as i32, w)
+                    } else {
+                        0
+                    }
+                })
+                .collect()
         };
         tally.same(r, "LDR", &a[..65], &all(286, probe::blend)[..]);
-        tally.same(r, "LDR in 16 bits", &a[65..130], &all(255, probe::blend)[..]);
+        tally.same(
+            r,
+            "LDR in 16 bits",
+            &a[65..130],
+            &all(255, probe::blend)[..],
+        );
         tally.same(r, "HDR", &a[130..195], &all(4095, probe::blend_hdr)[..]);
     })?;
     Ok(tally.end())
@@ -420,13 +523,23 @@ fn compare_colors(asker: &mut Asker, random: &mut Random, samples: u64) -> Resul
     let mut tally = Tally::new("words");
     asker.ask(&requests, |r, a| {
         let [red, green, blue, alpha] = [0, 1, 2, 3].map(|i| r.number(i) as u8);
-        tally.same(r, "word", u32_at(a, 0), color::color(red, green, blue, alpha));
+        tally.same(
+            r,
+            "word",
+            u32_at(a, 0),
+            color::color(red, green, blue, alpha),
+        );
     })?;
     Ok(tally.end())
 }
 
 /// All comparisons; whether every one found no difference.
-pub fn compare(program: &str, arguments: &[String], seed: u64, samples: u64) -> Result<bool, String> {
+pub fn compare(
+    program: &str,
+    arguments: &[String],
+    seed: u64,
+    samples: u64,
+) -> Result<bool, String> {
     println!("leaves against the original, seed {seed}, samples {samples}");
     let mut asker = Asker::start(program, arguments)?;
     let mut random = Random::new(seed);

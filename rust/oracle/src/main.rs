@@ -19,7 +19,11 @@ fn option(words: &mut Vec<String>, name: &str, default: u64) -> Result<u64, Stri
     if words.first().map(String::as_str) != Some(name) {
         return Ok(default);
     }
-    let number = words.get(1).ok_or(USAGE)?.parse().map_err(|_| format!("{name} takes a number; {USAGE}"))?;
+    let number = words
+        .get(1)
+        .ok_or(USAGE)?
+        .parse()
+        .map_err(|_| format!("{name} takes a number; {USAGE}"))?;
     words.drain(..2);
     Ok(number)
 }

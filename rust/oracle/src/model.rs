@@ -36,7 +36,9 @@ pub fn cost(q: usize, n: usize) -> usize {
 }
 
 fn bits(block: &[u8], start: usize, len: usize) -> usize {
-    (0..len).map(|i| ((block[(start + i) / 8] >> ((start + i) % 8) & 1) as usize) << i).sum()
+    (0..len)
+        .map(|i| ((block[(start + i) / 8] >> ((start + i) % 8) & 1) as usize) << i)
+        .sum()
 }
 
 pub struct Mode {
@@ -111,7 +113,12 @@ pub fn answer(block: &[u8], bw: usize, bh: usize) -> u8 {
     } else if base == 0 {
         (29, parts * 2 * (bits(block, 27, 2) + 1))
     } else {
-        (25 + 3 * parts, (0..parts).map(|i| 2 * (base - 1 + bits(block, 25 + i, 1) + 1)).sum())
+        (
+            25 + 3 * parts,
+            (0..parts)
+                .map(|i| 2 * (base - 1 + bits(block, 25 + i, 1) + 1))
+                .sum(),
+        )
     };
     if values > 18 {
         return 15;
