@@ -23,7 +23,9 @@ use Rattle.params.specs.declared.Config.{Config}
 use Rattle.params.specs.declared.Grid.{Grid}
 
 pub record Small (k : Config) : Type 0 where
+  pub column : 2 ≤ k .width
   pub width : k .width ≤ 12
+  pub row : 2 ≤ k .height
   pub height : k .height ≤ 12
   pub range : k .range ≤ 11
   pub plane : 1 ≤ k .planes
@@ -100,11 +102,13 @@ shifted k h = (leb→le _ _ (all-at (shiftTest 4) 8 tt k h), (leb→le _ _ (all-
 
 -- ---- the grid
 pub record GridSmall (g : Grid) : Type 0 where
+  pub column : 2 ≤ g .width
   pub width : g .width ≤ 12
+  pub row : 2 ≤ g .height
   pub height : g .height ≤ 12
 
-fit : (w h : ℕ) → (w ≤ 12) × (h ≤ 12) → GridSmall (grid w h)
-fit w h p = record { width = p .0; height = p .1 }
+fit : (w h : ℕ) → (2 ≤ w) × (w ≤ 12) × (2 ≤ h) × (h ≤ 12) → GridSmall (grid w h)
+fit w h p = record { column = p .0; width = p .1; row = p .2; height = p .3 }
 
 cond-small : (t : Bool) (a b : Grid) → GridSmall a → GridSmall b → GridSmall (cond t a b)
 cond-small true a b x y = x
@@ -263,7 +267,9 @@ range-most c = omega (arith, r-most c, h-most c)
 pub small : (c : ℕ) → Small (configOf c)
 unfolding configOf
 small c = record {
+  column = grid-small c .column;
   width = grid-small c .width;
+  row = grid-small c .row;
   height = grid-small c .height;
   range = range-most c;
   plane = omega arith;

@@ -193,7 +193,7 @@ low-same v w s =
     let e : bitsAt v 11 2 ≡ bitsAt w 11 2 = same-bits v w 11 2 (λ k a b. s′ k (omega arith) (omega (arith, conf-least p))) in
     same-bits v w 0 (confLen p) s′ ∙ ap (λ (x : ℕ). bitsAt w 0 (confLen (x + 1))) e
 
-answer-is : (v bw bh : ℕ) → paramsOf v bw bh .answer ≡ answer (lowOf v) bw bh
+pub answer-is : (v bw bh : ℕ) → paramsOf v bw bh .answer ≡ answer (lowOf v) bw bh
 unfolding paramsOf legal refused
 answer-is v bw bh = go (answer (lowOf v) bw bh) (eqb (answer (lowOf v) bw bh) 0) refl
   where

@@ -1,0 +1,43 @@
+-- The sequence that is read, unquantised and decoded is the one of the endpoint field.
+use Rattle.block.specs.Parts.{range-legal, below, past, ends-is}
+use mathlib.Core.Path.{refl}
+use native.Mathlib.Omega.{arith}
+use borrow.Author.Needs.{needs}
+use Rattle.block.proofs.ends_of.Statement.{statement}
+use Rattle.block.proofs.ends_of.Tie as tie
+
+range-of-requires : tie.Need-range-of-requires
+range-of-requires c κs = search needs
+
+decode-intseq-requires : tie.Need-decode-intseq-requires
+decode-intseq-requires c κs =
+    let f = c .before .before .before .before .pre .1 .1 in
+    (refl, c .before .before .before .before .pre .0, c .before .before .before .before .pre .1 .0, range-legal _ _ (f .most) (c .range-of .ensures), omega (arith, f .values), f .low)
+
+unquantize-requires : tie.Need-unquantize-requires
+unquantize-requires c κs =
+    let s = c .before .before .before .before .before .before .before in
+    let f = s .pre .1 .1 in
+    let e = c .before .before .before .range-of .ensures in
+    let d = c .before .before .decode-intseq .ensures in
+    (refl, ((f .values, f .least, f .most), (below _ _ _ _ _ e d, past _ _ _ _ d)))
+
+decode-endpoints-requires : tie.Need-decode-endpoints-requires
+decode-endpoints-requires c κs =
+    let f = c .before .before .before .before .before .before .before .before .before .pre .1 .1 in
+    ((f .part, f .parts), (λ i h. f .modes i, rw (f .count) (f .values)))
+
+returns : tie.Need-returns
+returns c =
+    let s = c .before .before .before .before .before .before .before .before .before .before in
+    ends-is (s .args .p) (s .args .bw) (s .args .bh) _ (s .pre .1 .1) _ _ _ _ (c .before .before .before .before .before .before .range-of .ensures) (c .before .before .before .before .before .decode-intseq .ensures) (c .before .before .unquantize .ensures) (c .decode-endpoints .ensures)
+
+pub ends-of-spec : {M : Type 1} → statement M
+ends-of-spec =
+    tie.close
+    (tie.spec
+    range-of-requires
+    decode-intseq-requires
+    unquantize-requires
+    decode-endpoints-requires
+    returns)

@@ -1,0 +1,4 @@
+pub mod Block
+pub mod Facts
+pub mod Parts
+pub mod Entry
