@@ -1,9 +1,9 @@
-//! The comparisons, one for each layer below the block.
+//! The comparisons, one for each layer.
 
 use crate::asker::{Asker, Request, ANSWER};
 use crate::model::{self, FOOTPRINTS, TOPS};
 use crate::random::Random;
-use original::astc::probe;
+use original::astc::{decode_astc_block, probe};
 use original::{bitreader, color, f16};
 
 const BITS: u8 = 1;
@@ -16,6 +16,7 @@ const WEIGHTS: u8 = 7;
 const PARTITION: u8 = 8;
 const BLEND: u8 = 9;
 const COLOR: u8 = 10;
+const BLOCK: u8 = 11;
 
 type Answer = [u8; ANSWER];
 
@@ -533,6 +534,88 @@ fn compare_colors(asker: &mut Asker, random: &mut Random, samples: u64) -> Resul
     Ok(tally.end())
 }
 
+/// The words that an answer holds, what a word is before the block is painted, and the word of a refused block.
+const WORDS: usize = 71;
+const BEFORE: u32 = 0x1234_5678;
+const MAGENTA: u32 = 0xffff_00ff;
+
+/// A void block: halves or 16-bit numbers, the special ones among them, and any extents.
+fn void(random: &mut Random) -> [u8; 16] {
+    const SPECIAL: [u16; 8] = [
+        0x0000, 0x8000, 0x3c00, 0x3c01, 0x7c00, 0xfc00, 0x7c01, 0xbc00,
+    ];
+    let mut block = random.block();
+    block[0] = 0xfc;
+    block[1] |= 1;
+    for i in 0..4 {
+        if random.below(2) == 0 {
+            let half = SPECIAL[random.below(8)];
+            block[8 + 2 * i..10 + 2 * i].copy_from_slice(&half.to_le_bytes());
+        }
+    }
+    block
+}
+
+/// Whole blocks, and the words after them, which stay: the first eleven bits exhaustively at every footprint, any block, blocks
+/// that lean to legal ones, these with one bit changed, and void blocks; also footprints that are not listed.
+fn compare_blocks(asker: &mut Asker, random: &mut Random, samples: u64) -> Result<bool, String> {
+    let mut requests = vec![];
+    let mut ask = |bw: usize, bh: usize, block: [u8; 16]| {
+        for third in 0..=bw * bh / WORDS {
+            requests.push(Request::new(BLOCK, &[bw, bh, third], block));
+        }
+    };
+    for w in 0..14 {
+        for h in 0..14 {
+            ask(w, h, random.block());
+        }
+    }
+    for (bw, bh) in FOOTPRINTS {
+        for low in 0..2048u16 {
+            let mut block = random.block();
+            block[0] = low as u8;
+            block[1] = block[1] & 0xf8 | (low >> 8) as u8;
+            ask(bw, bh, block);
+        }
+        for i in 0..samples / 10 {
+            let mut block = model::likely(random, bw, bh);
+            match i % 10 {
+                0 => block = random.block(),
+                1 => block = void(random),
+                2 | 3 => {
+                    let bit = random.below(128);
+                    block[bit / 8] ^= 1 << (bit % 8);
+                }
+                _ => {}
+            }
+            ask(bw, bh, block);
+        }
+    }
+    let mut tally = Tally::new("blocks");
+    let mut seen = [false; 22];
+    asker.ask(&requests, |r, a| {
+        let (bw, bh) = (r.number(0), r.number(1));
+        let mut theirs = [BEFORE; 3 * WORDS];
+        let mut answer = 21;
+        if FOOTPRINTS.contains(&(bw, bh)) {
+            answer = model::answer(r.block(), bw, bh);
+            match answer {
+                0 | 1 | 10 => decode_astc_block(r.block(), bw, bh, &mut theirs),
+                _ => theirs[..bw * bh].fill(MAGENTA),
+            }
+        }
+        seen[answer as usize] = true;
+        tally.same(r, "answer", u16_at(a, 0), u16::from(answer));
+        let ours: Vec<u32> = (0..WORDS).map(|i| u32_at(a, 4 + 4 * i)).collect();
+        let first = r.number(2) * WORDS;
+        tally.same(r, "words", &ours[..], &theirs[first..first + WORDS]);
+    })?;
+    for answer in [0, 1, 10, 11, 12, 13, 14, 15, 16, 21] {
+        assert!(seen[answer], "no block with answer {answer} was compared");
+    }
+    Ok(tally.end())
+}
+
 /// All comparisons; whether every one found no difference.
 pub fn compare(
     program: &str,
@@ -554,6 +637,7 @@ pub fn compare(
         compare_partitions(&mut asker)?,
         compare_blends(&mut asker, &mut random, samples)?,
         compare_colors(&mut asker, &mut random, samples)?,
+        compare_blocks(&mut asker, &mut random, samples)?,
     ];
     Ok(results.iter().all(|&r| r))
 }
