@@ -623,7 +623,7 @@ pub fn compare(
     seed: u64,
     samples: u64,
 ) -> Result<bool, String> {
-    println!("leaves against the original, seed {seed}, samples {samples}");
+    println!("the layers against the original, seed {seed}, samples {samples}");
     let mut asker = Asker::start(program, arguments)?;
     let mut random = Random::new(seed);
     let results = [
