@@ -11,7 +11,7 @@ use Rattle.bits.specs.Bits.{bitsAt, bytes, reversed}
 use Rattle.sequence.specs.Ranges.{rangeOf}
 use Rattle.sequence.specs.Sequence.{valuesOf}
 use Rattle.half.specs.Half.{voidByteOf}
-use Rattle.params.specs.Blocks.{listed, paramsOf}
+use Rattle.params.specs.Blocks.{listed, noMap, paramsOf}
 use Rattle.params.specs.declared.Map.{Map}
 use Rattle.params.specs.declared.Params.{Params}
 use Rattle.endpoints.specs.Unquantised.{endpointValues}
@@ -22,6 +22,7 @@ use Rattle.weights.specs.declared.Grid.{Grid}
 use Rattle.partition.specs.Partition.{partitionAt}
 use Rattle.blend.specs.Blend.{wordOf}
 use Rattle.paint.specs.Texels.{texelWord}
+use Rattle.block.specs.declared.BlockMap.{BlockMap}
 
 -- ---- a legal block, of its parameters p and two more fields
 -- the endpoints of its partitions, from the endpoint field
@@ -85,6 +86,30 @@ answerOf s bw bh room =
 unfoldable pub paintedOf : List ℕ → ℕ → ℕ → List ℕ → List ℕ
 paintedOf s bw bh out = cond (ltb (answerOf s bw bh (length out)) 20) (put (blockWord (bytes 16 s) bw bh) 0 (bw * bh) out) out
 
+-- ---- the map, of the sixteen bytes s: it takes no output, so none is too short
+unfoldable pub mapAnswer : List ℕ → ℕ → ℕ → ℕ
+mapAnswer s bw bh = answerOf s bw bh (bw * bh)
+
+-- the low configuration starts at bit 0
+unfoldable pub reportOf : ℕ → Map → BlockMap
+reportOf a m = record {
+  answer = a;
+  top = m .top;
+  lowat = 0;
+  lowlen = m .lowlen;
+  endat = m .endat;
+  endlen = m .endlen;
+  extraat = m .extraat;
+  extralen = m .extralen;
+  weightat = m .weightat;
+  weightlen = m .weightlen;
+}
+
+-- all its numbers are 0 where the answer is another than 0
+unfoldable pub blockMap : List ℕ → ℕ → ℕ → BlockMap
+blockMap s bw bh = let a = mapAnswer s bw bh in reportOf a (cond (eqb a 0) (paramsOf (bytes 16 s) bw bh .map) noMap)
+
+-- ---- the code's steps
 -- the word of texel i whose halves stand in h
 abbrev pub joinedAt : List ℕ → ℕ → ℕ
 joinedAt h i = getD h (2 * i) 0 + 65536 * getD h (2 * i + 1) 0

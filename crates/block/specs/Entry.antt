@@ -1,22 +1,25 @@
 -- The entry point's ways out, and the words that two halves of a texel make.
 -- Assumes nothing.
-use mathlib.Core.Path.{_≡_, refl, sym, _∙_}
-use mathlib.Core.Bool.{Bool, true, false, cond, _&&_}
+use mathlib.Core.Path.{_≡_, refl, sym, ap, _∙_}
+use mathlib.Core.Bool.{Bool, true, false, cond, not, _&&_}
 use mathlib.Core.List.{List}
 use Prim.Native.Nat.{ℕ, _+_, _*_, _/_, _%_, _≤_, _<_, zero-le}
 use native.Mathlib.Omega.{arith}
 use lib.Dec.{eqb, ltb}
 use lib.ListN.{length, replicate, length-replicate}
-use borrow.Author.Tests.{eq-eqb, ne-eqb, lt-ltb, le-ltb}
+use borrow.Author.Tests.{eq-eqb, ne-eqb, eqb-false, lt-ltb, le-ltb}
 use Rattle.laws.specs.Lists.{put, put-in, put-same}
 use Rattle.bits.specs.Bits.{bytes}
-use Rattle.params.specs.Blocks.{listed, used, weights, endVerdict, verdict, answer, lowOf, paramsOf}
+use Rattle.params.specs.Blocks.{listed, used, weights, endVerdict, verdict, answer, lowOf, noMap, refused, paramsOf}
 use Rattle.params.specs.Config.{isVoid, isReserved, configOf}
 use Rattle.params.specs.declared.Config.{Config}
+use Rattle.params.specs.declared.Map.{Map}
+use Rattle.params.specs.declared.Params.{Params}
 use Rattle.params.specs.Laws.{answer-is}
 use Rattle.paint.specs.Texels.{halfAt, eights}
 use Rattle.paint.specs.PaintLaws.{half-low, half-high}
-use Rattle.block.specs.Block.{blockWord, answerOf, paintedOf, joinedAt}
+use Rattle.block.specs.Block.{blockWord, answerOf, paintedOf, mapAnswer, reportOf, blockMap, joinedAt}
+use Rattle.block.specs.declared.BlockMap.{BlockMap}
 
 -- ---- a block's answer is below every refusal
 choice : (b : Bool) (x y : ℕ) → x < 20 → y < 20 → cond b x y < 20
@@ -40,6 +43,18 @@ verdict-lt k bw bh =
 answer-lt : (c bw bh : ℕ) → answer c bw bh < 20
 unfolding answer
 answer-lt c bw bh = choice (isVoid c) 1 _ (omega arith) (choice (isReserved c) 10 _ (omega arith) (verdict-lt (configOf c) bw bh))
+
+-- and no answer is above them
+refusal : (b : Bool) (x y : ℕ) → x < 23 → y < 23 → cond b x y < 23
+refusal true x y h l = h
+refusal false x y h l = l
+
+pub answer-small : (s : List ℕ) (bw bh room : ℕ) → answerOf s bw bh room < 23
+unfolding answerOf
+answer-small s bw bh room =
+    let l : paramsOf (bytes 16 s) bw bh .answer < 20 = rw (answer-is (bytes 16 s) bw bh) (answer-lt (lowOf (bytes 16 s)) bw bh) in
+    let m : paramsOf (bytes 16 s) bw bh .answer < 23 = omega arith in
+    refusal (not (eqb (length s) 16)) 20 _ (omega arith) (refusal (not (listed bw bh)) 21 _ (omega arith) (refusal (ltb room (bw * bh)) 22 _ (omega arith) m))
 
 -- ---- the word whose halves were painted
 pub joined-is : (f : ℕ → ℕ) (n i : ℕ) → n ≤ 144 → i < n → joinedAt (put (halfAt f) 0 (2 * eights n) (replicate 288 0)) i ≡ f i
@@ -72,3 +87,33 @@ module _ (s : List ℕ) (bw bh : ℕ) (out : List ℕ) where
         let t : ltb (paramsOf (bytes 16 s) bw bh .answer) 20 ≡ true = lt-ltb (paramsOf (bytes 16 s) bw bh .answer) 20 (rw (answer-is (bytes 16 s) bw bh) (answer-lt (lowOf (bytes 16 s)) bw bh)) in
         rw (eq-eqb (length s) 16 l, f, le-ltb (length out) (bw * bh) r, t, sym e)
         (b, w ∙ rw d (put-same _ _ 0 (bw * bh) out (λ k x y. joined-is (blockWord v bw bh) (bw * bh) k n y)))
+
+-- ---- the ways out of the map
+-- a block that is not legal has no fields
+map-none : (v bw bh : ℕ) → (paramsOf v bw bh .answer ≡ 0 → ⊥) → paramsOf v bw bh .map ≡ noMap
+unfolding refused paramsOf
+map-none v bw bh h = rw (ne-eqb (answer (lowOf v) bw bh) 0 (λ z. h (answer-is v bw bh ∙ z)))
+
+module _ (s : List ℕ) (bw bh : ℕ) where
+  pub map-not-sixteen : (length s ≡ 16 → ⊥) → reportOf 20 noMap ≡ blockMap s bw bh
+  unfolding answerOf mapAnswer blockMap
+  map-not-sixteen h = rw (ne-eqb (length s) 16 h)
+
+  pub map-not-listed : length s ≡ 16 → listed bw bh ≡ false → reportOf 21 noMap ≡ blockMap s bw bh
+  unfolding answerOf mapAnswer blockMap
+  map-not-listed h l = rw (eq-eqb (length s) 16 h, l)
+
+  pub map-answer : length s ≡ 16 → listed bw bh ≡ true → mapAnswer s bw bh ≡ paramsOf (bytes 16 s) bw bh .answer
+  unfolding answerOf mapAnswer
+  map-answer h l = rw (eq-eqb (length s) 16 h, l, le-ltb (bw * bh) (bw * bh) (omega arith))
+
+  pub map-block : (v : ℕ) (p : Params) → length s ≡ 16 → listed bw bh ≡ true → v ≡ bytes 16 s → p ≡ paramsOf v bw bh → reportOf (p .answer) (p .map) ≡ blockMap s bw bh
+  unfolding blockMap
+  map-block v p h l e q = rw (map-answer h l, q, e) (ap (reportOf a) (go (eqb a 0) refl))
+    where
+      a : ℕ
+      a = paramsOf (bytes 16 s) bw bh .answer
+
+      go : (t : Bool) → eqb a 0 ≡ t → paramsOf (bytes 16 s) bw bh .map ≡ cond t (paramsOf (bytes 16 s) bw bh .map) noMap
+      go true x = refl
+      go false x = map-none (bytes 16 s) bw bh (eqb-false a 0 x)

@@ -2,3 +2,4 @@ pub mod Block
 pub mod Facts
 pub mod Parts
 pub mod Entry
+pub mod MapLaws

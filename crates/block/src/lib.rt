@@ -8,14 +8,15 @@ ghost use Rattle.bits.specs.Bits.{bitsAt, reversals};
 ghost use Rattle.bits.specs.Blocks.{valueOf};
 ghost use Rattle.sequence.specs.Digits.{tritTable, quintTable};
 ghost use Rattle.half.specs.Half.{voidByteOf};
-ghost use Rattle.params.specs.Blocks.{listed, paramsOf};
+ghost use Rattle.params.specs.Blocks.{listed, noMap, paramsOf};
 ghost use Rattle.partition.specs.Ramps.{Sides};
 ghost use Rattle.blend.specs.Blend.{wordOf};
 ghost use Rattle.paint.specs.Texels.{halfAt, eights};
-ghost use Rattle.block.specs.Block.{endsOf, endsField, weightsIn, weightsField, partitionsIn, ordinaryWord, voidWord, blockWord, joinedAt, answerOf, paintedOf};
+ghost use Rattle.block.specs.Block.{endsOf, endsField, weightsIn, weightsField, partitionsIn, ordinaryWord, voidWord, blockWord, joinedAt, answerOf, paintedOf, reportOf, blockMap};
 ghost use Rattle.block.specs.Facts.{Facts, Footprint, Tables};
 use bits::Block;
 use endpoints::Endpoints;
+use params::Map;
 use params::Params;
 use weights::Grid;
 
@@ -274,4 +275,67 @@ pub fn decode_astc_block(s: &[u8], bw: usize, bh: usize, out: &mut [u32]) -> usi
         return a;
     }
     21
+}
+
+// Where the fields of a legal block stand, start and length of each, and the largest value of its endpoints' range.
+pub struct BlockMap {
+    pub answer: usize,
+    pub top: usize,
+    pub lowat: usize,
+    pub lowlen: usize,
+    pub endat: usize,
+    pub endlen: usize,
+    pub extraat: usize,
+    pub extralen: usize,
+    pub weightat: usize,
+    pub weightlen: usize,
+}
+
+fn report(answer: usize, m: Map) -> BlockMap
+    ensures { λ r. ⌜ r ≡ reportOf answer m ⌝ }
+{
+    BlockMap {
+        answer,
+        top: m.top,
+        lowat: 0,
+        lowlen: m.lowlen,
+        endat: m.endat,
+        endlen: m.endlen,
+        extraat: m.extraat,
+        extralen: m.extralen,
+        weightat: m.weightat,
+        weightlen: m.weightlen,
+    }
+}
+
+// The map of a refusal: it has no fields.
+fn no_fields(answer: usize) -> BlockMap
+    ensures { λ r. ⌜ r ≡ reportOf answer noMap ⌝ }
+{
+    BlockMap {
+        answer,
+        top: 0,
+        lowat: 0,
+        lowlen: 0,
+        endat: 0,
+        endlen: 0,
+        extraat: 0,
+        extralen: 0,
+        weightat: 0,
+        weightlen: 0,
+    }
+}
+
+// The map of a block of sixteen bytes; for any answer but 0 all its numbers are 0.
+pub fn block_map(s: &[u8], bw: usize, bh: usize) -> BlockMap
+    ensures { λ r. ⌜ r ≡ blockMap (now (s .entry)) bw bh ⌝ }
+{
+    if s.len() != 16 {
+        return no_fields(20);
+    }
+    if params::is_listed(bw, bh) {
+        let p = params::decode_block_params(bits::load(s), bw, bh);
+        return report(p.answer, p.map);
+    }
+    no_fields(21)
 }
