@@ -6,7 +6,6 @@ use Prim.Native.Nat.{ℕ}
 use lib.Dec.{ltb}
 use lib.ListN.{getD, length}
 use Rattle.laws.specs.Lists.{put}
-use Rattle.block.specs.Block.{blockMap}
 use Rattle.block.specs.declared.BlockMap.{BlockMap}
 
 -- the largest endpoint value; start and length of low configuration, endpoints, extra and weights

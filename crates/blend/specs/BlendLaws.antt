@@ -117,9 +117,6 @@ hdr-closed v0 v1 w =
     ∙ ap (λ (n : ℕ). n + 16 * v1 * w) (mul-assoc 16 v0 (64 - w)) ∙ ap (λ (n : ℕ). 16 * (v0 * (64 - w)) + n) (mul-assoc 16 v1 w) ∙ sym (mul-add 16 (v0 * (64 - w)) (v1 * w)) in
     rw s (omega arith)
 
-pub hdr-blend-lt : (v0 v1 w : ℕ) → v0 < 4096 → v1 < 4096 → w ≤ 64 → hdrBlend v0 v1 w < 65536
-hdr-blend-lt v0 v1 w h l k = rw (← hdr-closed v0 v1 w) (omega (arith, shares-most v0 v1 w k))
-
 -- the logarithm's three pieces as one sum: natural numbers end at 0
 pub bent-sum : (m : ℕ) → 3 * m + (m - 512) + (m - 1536) ≡ bent m
 unfolding bent

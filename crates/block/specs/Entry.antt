@@ -3,7 +3,7 @@
 use mathlib.Core.Path.{_≡_, refl, sym, ap, _∙_}
 use mathlib.Core.Bool.{Bool, true, false, cond, not, _&&_}
 use mathlib.Core.List.{List}
-use Prim.Native.Nat.{ℕ, _+_, _*_, _/_, _%_, _≤_, _<_, zero-le}
+use Prim.Native.Nat.{ℕ, _+_, _*_, _/_, _≤_, _<_, zero-le}
 use native.Mathlib.Omega.{arith}
 use lib.Dec.{eqb, ltb}
 use lib.ListN.{length, replicate, length-replicate}
@@ -13,13 +13,11 @@ use Rattle.bits.specs.Bits.{bytes}
 use Rattle.params.specs.Blocks.{listed, used, weights, endVerdict, verdict, answer, lowOf, noMap, refused, paramsOf}
 use Rattle.params.specs.Config.{isVoid, isReserved, configOf}
 use Rattle.params.specs.declared.Config.{Config}
-use Rattle.params.specs.declared.Map.{Map}
 use Rattle.params.specs.declared.Params.{Params}
 use Rattle.params.specs.Laws.{answer-is}
 use Rattle.paint.specs.Texels.{halfAt, eights}
 use Rattle.paint.specs.PaintLaws.{half-low, half-high}
 use Rattle.block.specs.Block.{blockWord, answerOf, paintedOf, mapAnswer, reportOf, blockMap, joinedAt}
-use Rattle.block.specs.declared.BlockMap.{BlockMap}
 
 -- ---- a block's answer is below every refusal
 choice : (b : Bool) (x y : ℕ) → x < 20 → y < 20 → cond b x y < 20

@@ -3,3 +3,8 @@ pub mod Facts
 pub mod Parts
 pub mod Entry
 pub mod MapLaws
+pub mod Demands
+pub mod DemandLaws
+pub mod Kinds
+pub mod Values
+pub mod Tight

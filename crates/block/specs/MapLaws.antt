@@ -1,9 +1,9 @@
 -- The map of a block: what an answer of 0 says, and how large its numbers are.
 -- Assumes nothing.
-use mathlib.Core.Path.{_≡_, refl, sym, ap, _∙_}
+use mathlib.Core.Path.{_≡_, refl, sym, _∙_}
 use mathlib.Core.Bool.{Bool, true, false, cond, not}
 use mathlib.Core.List.{List}
-use Prim.Native.Nat.{ℕ, _+_, _*_, _≤_, _<_}
+use Prim.Native.Nat.{ℕ, _*_, _≤_, _<_}
 use native.Mathlib.Omega.{arith}
 use lib.Dec.{eqb, leb, ltb, leb→le}
 use lib.ListN.{length}
@@ -11,13 +11,11 @@ use borrow.Author.Tests.{eqb-true, le-ltb}
 use Rattle.laws.specs.Table.{all-at}
 use Rattle.bits.specs.Bits.{bytes}
 use Rattle.sequence.specs.Ranges.{tops, topOf}
-use Rattle.params.specs.Blocks.{listed, answer, lowOf, mapOf, endRange, noMap, legal, paramsOf}
-use Rattle.params.specs.Config.{configOf}
+use Rattle.params.specs.Blocks.{listed, answer, mapOf, noMap, legal, paramsOf}
 use Rattle.params.specs.Laws.{Fields, Widest, map-fields, map-range, answer-is, legal-is}
 use Rattle.params.specs.declared.Map.{Map}
-use Rattle.params.specs.declared.Params.{Params}
 use Rattle.block.specs.Block.{answerOf, mapAnswer, reportOf, blockMap}
-use Rattle.block.specs.Entry.{answer-small, map-answer}
+use Rattle.block.specs.Entry.{answer-small}
 use Rattle.block.specs.declared.BlockMap.{BlockMap}
 
 -- ---- a map with the answer 0

@@ -108,12 +108,12 @@ filled-lt m n e g i h l = rw (put-zeros g e n) (go (decLt i n) (decLt i e))
     go (no a) b = rw (List·getD-eq-default (listOf z 0 n) 0 {n = i} (rw (length-listOf z 0 n) (omega arith))) (omega arith)
 
 module _ (p : Params) (bw bh : ℕ) (f : Facts p bw bh) where
-  ends-within : (field i : ℕ) → Within (getD (endsOf p field) i nothing)
+  pub ends-within : (field i : ℕ) → Within (getD (endsOf p field) i nothing)
   unfolding endsOf
   ends-within field i =
       partition-within (p .config .parts) (p .modes) _ (endpoint-values-lt (p .range) _ (f .most) (values-lt (rangeOf (p .range)) field (p .config .values))) i
 
-  weights-light : (field i : ℕ) → getD (weightsIn p bw bh field) i 0 ≤ 64
+  pub weights-light : (field i : ℕ) → getD (weightsIn p bw bh field) i 0 ≤ 64
   unfolding weightsIn
   weights-light field i =
       weights-le (gridOf p bw bh) (p .config .range) _

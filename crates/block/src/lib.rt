@@ -243,10 +243,10 @@ fn put_words(out: &mut [u32], n: usize, h: &[u16; 288])
     requires { ⌜ (n ≤ 144) × (n ≤ length (now out)) ⌝ }
     ensures { λ _. ⌜ now (out .exit) ≡ put (joinedAt (now (h .entry))) 0 n (now (out .entry)) ⌝ }
 {
-    let mut i = 0;
-    while i < n {
-        out[i] = word(h, i);
-        i += 1;
+    let mut t = 0;
+    while t < n {
+        out[t] = word(h, t);
+        t += 1;
     }
 }
 

@@ -1,6 +1,6 @@
 -- Laws of the modes and of the partitions' places.
 -- Assumes nothing.
-use mathlib.Core.Path.{_≡_, refl}
+use mathlib.Core.Path.{_≡_}
 use mathlib.Core.Logic.{_⊎_, inl, inr}
 use mathlib.Core.List.{List}
 use Prim.Native.Nat.{ℕ, zero, suc, _+_, _≤_, _<_}
@@ -8,9 +8,8 @@ use native.Mathlib.Nat.{le-refl}
 use native.Mathlib.Numerals.{add-one}
 use native.Mathlib.Omega.{arith}
 use native.Mathlib.Decide.{decLt}
-use lib.ListN.{length, getD, set}
+use lib.ListN.{getD, set}
 use Rattle.endpoints.specs.Endpoints.{endpointsOf, valuesAt, countOf, countTo, partitionEndpoints, endpointsList}
-use Rattle.endpoints.specs.Colours.{nothing}
 use Rattle.endpoints.specs.declared.Endpoints.{Endpoints}
 
 -- ---- the modes
@@ -65,16 +64,3 @@ one-more modes ev x (suc zero) h e = rw e
 one-more modes ev x (suc (suc zero)) h e = rw e
 one-more modes ev x (suc (suc (suc zero))) h e = rw e
 one-more modes ev x (suc (suc (suc (suc i)))) h e = absurd (past-3 h)
-
--- ---- a partition's entry
-pub list-at : (parts : ℕ) (modes ev : List ℕ) (i : ℕ) → i < 4 → getD (endpointsList parts modes ev) i nothing ≡ partitionEndpoints parts modes ev i
-unfolding endpointsList
-list-at parts modes ev zero h = refl
-list-at parts modes ev (suc zero) h = refl
-list-at parts modes ev (suc (suc zero)) h = refl
-list-at parts modes ev (suc (suc (suc zero))) h = refl
-list-at parts modes ev (suc (suc (suc (suc i)))) h = absurd (past-3 h)
-
-pub list-length : (parts : ℕ) (modes ev : List ℕ) → length (endpointsList parts modes ev) ≡ 4
-unfolding endpointsList
-list-length parts modes ev = refl

@@ -171,10 +171,6 @@ put-next f a m e s l r =
     among k h p q (yes b) = put-before f m e t k (in-t k h) b ∙ put-in f a m s k h p b
     among k h p q (no b) = put-in f m e t k (in-t k h) (omega arith) q
 
--- every place is filled
-pub put-all : (f : ℕ → ℕ) (n : ℕ) (s : List ℕ) → length s ≡ n → put f 0 n s ≡ listOf f 0 n
-put-all f n s l = is-listOf f n (put f 0 n s) (length-put f 0 n s ∙ l) (λ k h. put-in f 0 n s k (rw l h) (omega arith) h)
-
 -- the first n places of zeros are filled: a list of f's values, and 0 after them
 pub put-zeros : (f : ℕ → ℕ) (n m : ℕ) → put f 0 n (replicate m 0) ≡ listOf (λ (k : ℕ). cond (ltb k n) (f k) 0) 0 m
 put-zeros f n m = is-listOf _ m (put f 0 n z) (length-put f 0 n z ∙ length-replicate m 0) (λ k h. at k h (decLt k n))

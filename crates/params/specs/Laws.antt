@@ -171,7 +171,7 @@ pub record SameMapped (m : Map) (v w : ℕ) : Type 0 where
   pub weights : Same v w (m .weightat) (m .weightlen)
 
 -- the low configuration has as many partitions as the block
-conf-least : (p : ℕ) → 17 ≤ confLen p
+pub conf-least : (p : ℕ) → 17 ≤ confLen p
 unfolding confLen
 conf-least p = go (eqb p 1)
   where
@@ -349,24 +349,6 @@ disjoint v bw bh k e =
       extra-weights = λ a b. omega arith;
       within = ⊎-elim (λ a. omega arith) (⊎-elim (λ a. omega arith) (⊎-elim (λ a. omega arith) (λ a. omega arith)));
     }
-
--- ---- what a caller may rely on
-pub record Valid (p : Params) (bw bh : ℕ) : Type 0 where
-  pub small : Small (p .config)
-  pub rules : Legal (p .config) bw bh
-  pub range : p .range < 21
-  pub fields : Fields (p .map)
-
-pub valid : (v bw bh : ℕ) → paramsOf v bw bh .answer ≡ 0 → Valid (paramsOf v bw bh) bw bh
-unfolding legal
-valid v bw bh e =
-    let a : answer (lowOf v) bw bh ≡ 0 = sym (answer-is v bw bh) ∙ e in
-    let w = range-is (lowOf v) bw bh a in
-    rw (legal-is v bw bh a) (record { small = small (lowOf v); rules = ordinary (lowOf v) bw bh a .rules; range = omega (arith, w .most); fields = fields (lowOf v) bw bh a })
-
--- in the form in which a caller has it
-pub valid-of : (p : Params) (v bw bh : ℕ) → p ≡ paramsOf v bw bh → p .answer ≡ 0 → Valid p bw bh
-valid-of p v bw bh e z = rw e (valid v bw bh (rw e at z))
 
 -- ---- that the definitions say what the document says
 -- a class is a quarter of the mode

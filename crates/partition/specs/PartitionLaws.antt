@@ -219,9 +219,6 @@ row-fits bw bh t s h =
 flat-zero : (s t : ℕ) → rampAt (record { start = 0; along = 0; down = 0 }) s t ≡ 0
 flat-zero s t = rw (zero-mul t, zero-mul s)
 
-pub flat-gentle : Gentle (record { start = 0; along = 0; down = 0 })
-flat-gentle = record { start = omega arith; along = omega arith; down = omega arith }
-
 module _ (number parts bw bh scale : ℕ) (s u : List ℕ) (es : scale ≡ scaleOf bw bh) where
   pub of-two : (a b : Ramp) → parts ≡ 2 → RampOf (seedOf number parts) parts 0 scale a → RampOf (seedOf number parts) parts 1 scale b
       → u ≡ put (texels (ofTwo a b) bw) 0 (bw * bh) s → u ≡ put (partitionAt number parts bw bh) 0 (bw * bh) s

@@ -1,6 +1,6 @@
 -- The laws of ranges and of decoded sequences.
 -- Assumes nothing.
-use mathlib.Core.Path.{_≡_, sym, ap, _∙_}
+use mathlib.Core.Path.{_≡_, ap, _∙_}
 use mathlib.Core.Bool.{Bool, cond}
 use Prim.Native.Nat.{ℕ, _+_, _*_, _-_, _^_, _≤_, _<_}
 use native.Mathlib.Nat.{le-trans, mul-le-mul, mul-pos, zero-add}
@@ -13,10 +13,9 @@ use lib.ListN.{length, getD, List·getD-eq-default}
 use borrow.Author.Tests.{lt-ltb, le-ltb}
 use Rattle.laws.specs.Table.{all-at}
 use Rattle.laws.specs.Lists.{length-listOf, getD-listOf}
-use Rattle.bits.specs.Bits.{bitsAt, reversed}
-use Rattle.bits.specs.BitLaws.{bits-lt, same-bits, reversed-top}
-use Rattle.sequence.specs.Ranges.{range, ranges, rangeOf, base, levels, most, tops, topOf}
-use Rattle.sequence.specs.Sequence.{totalOf, valueIn, valueAt, valuesOf}
+use Rattle.bits.specs.BitLaws.{bits-lt}
+use Rattle.sequence.specs.Ranges.{ranges, rangeOf, base, levels, most, tops, topOf}
+use Rattle.sequence.specs.Sequence.{valueIn, valueAt, valuesOf}
 use Rattle.sequence.specs.DigitLaws.{digit-lt}
 use Rattle.sequence.specs.declared.Kind.{Kind}
 use Rattle.sequence.specs.declared.Kind.the-variants.{Plain, Trits, Quints}
@@ -94,17 +93,3 @@ module _ (r : Range) (w n : ℕ) where
       entry (yes l) (yes h) = rw (values-before i h l) (value-lt r w i)
       entry (yes l) (no h) = rw (List·getD-eq-default (valuesOf r w n) 0 {n = i} (rw length-values (omega arith))) some
       entry (no l) h = rw (values-past i (omega arith)) some
-
--- a sequence depends on its own bits alone
-pub same-values : (r : Range) (n s v v′ : ℕ) → ((i : ℕ) → s ≤ i → i < s + totalOf r n → bitsAt v i 1 ≡ bitsAt v′ i 1)
-    → valuesOf r (bitsAt v s (totalOf r n)) n ≡ valuesOf r (bitsAt v′ s (totalOf r n)) n
-same-values r n s v v′ h = ap (λ (w : ℕ). valuesOf r w n) (same-bits v v′ s (totalOf r n) h)
-
--- downwards from a number's end: on the top bits
-pub same-down : (r : Range) (n m v v′ : ℕ) → totalOf r n ≤ m → ((i : ℕ) → m - totalOf r n ≤ i → i < m → bitsAt v i 1 ≡ bitsAt v′ i 1)
-    → valuesOf r (bitsAt (reversed m v) 0 (totalOf r n)) n ≡ valuesOf r (bitsAt (reversed m v′) 0 (totalOf r n)) n
-same-down r n m v v′ l h =
-    ap (λ (w : ℕ). valuesOf r w n)
-    (reversed-top m (totalOf r n) v l
-    ∙ ap (λ (x : ℕ). reversed (totalOf r n) x) (same-bits v v′ (m - totalOf r n) (totalOf r n) (λ i p q. h i p (omega arith)))
-    ∙ sym (reversed-top m (totalOf r n) v′ l))

@@ -1,4 +1,4 @@
--- The places before i hold the words joined.
+-- The places before t hold the words joined.
 use lib.ListN.{length}
 use Rattle.block.specs.Block.{joinedAt}
 use Rattle.laws.specs.Lists.{put, put-none, put-end, put-turn, length-put}
@@ -9,10 +9,10 @@ use Rattle.block.proofs.put_words.Statement.{statement}
 use Rattle.block.proofs.put_words.Tie as tie
 
 abbrev Inv-loop : tie.InvT-loop
-Inv-loop out₀ n h i₀ out i = (i ≤ n) × (out ≡ put (joinedAt h) 0 i out₀)
+Inv-loop out₀ n h t₀ out t = (t ≤ n) × (out ≡ put (joinedAt h) 0 t out₀)
 
 abbrev μ-loop : tie.MeasureT-loop
-μ-loop out₀ n h i₀ out i = n - i
+μ-loop out₀ n h t₀ out t = n - t
 
 loop-holds : tie.Need-loop-holds Inv-loop μ-loop
 loop-holds c = (omega arith, put-none _ 0 _)
@@ -24,16 +24,16 @@ mul-out : tie.Need-mul-out Inv-loop μ-loop
 mul-out c = omega arith
 
 slice-write-out : tie.Need-slice-write-out Inv-loop μ-loop
-slice-write-out c = omega (arith, ap length (c .before .before .loop .inv .1), length-put (joinedAt (c .before .before .before .before .args .h .now)) 0 (c .before .before .loop .i) (c .before .before .before .before .args .out .now))
+slice-write-out c = omega (arith, ap length (c .before .before .loop .inv .1), length-put (joinedAt (c .before .before .before .before .args .h .now)) 0 (c .before .before .loop .t) (c .before .before .before .before .args .out .now))
 
-add-i : tie.Need-add-i Inv-loop μ-loop
-add-i c = omega arith
+add-t : tie.Need-add-t Inv-loop μ-loop
+add-t c = omega arith
 
 loop-less : tie.Need-loop-less Inv-loop μ-loop
 loop-less c = omega arith
 
 loop-again : tie.Need-loop-again Inv-loop μ-loop
-loop-again c = let l = c .before .before .loop in (omega arith, put-turn _ 0 (l .i) _ _ (l .out) (l .inv .1) (omega arith) (c .word .ensures))
+loop-again c = let l = c .before .before .loop in (omega arith, put-turn _ 0 (l .t) _ _ (l .out) (l .inv .1) (omega arith) (c .word .ensures))
 
 same-length : tie.Need-same-length Inv-loop μ-loop
 same-length c = ap length (c .before .loop .inv .1) ∙ length-put _ 0 _ _
@@ -51,7 +51,7 @@ put-words-spec =
     word-requires
     mul-out
     slice-write-out
-    add-i
+    add-t
     loop-less
     loop-again
     same-length

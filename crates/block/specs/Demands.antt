@@ -1,0 +1,91 @@
+-- Demand 3: a legal block never leaves its bounds, in the terms of the map that is reported. DemandLaws has the proof.
+-- Assumes nothing.
+use mathlib.Core.Path.{_≡_}
+use mathlib.Core.Bool.{cond}
+use mathlib.Core.List.{List, [], _∷_}
+use Prim.Native.Nat.{ℕ, _+_, _≤_, _<_}
+use lib.Dec.{eqb}
+use lib.ListN.{getD, length}
+use Rattle.bits.specs.Bits.{bitsAt, bytes}
+use Rattle.sequence.specs.Ranges.{topOf}
+use Rattle.params.specs.Ranges.{cost}
+use Rattle.params.specs.Blocks.{paramsOf}
+use Rattle.params.specs.declared.Params.{Params}
+use Rattle.endpoints.specs.Colours.{nothing}
+use Rattle.endpoints.specs.declared.Mark.{Mark}
+use Rattle.endpoints.specs.declared.Mark.the-variants.{Ldr}
+use Rattle.endpoints.specs.declared.Endpoints.{Endpoints}
+use Rattle.blend.specs.BlendLaws.{Within}
+use Rattle.block.specs.Block.{endsOf, endsField, weightsIn, weightsField, partitionsIn, blockWord, answerOf, paintedOf, blockMap}
+use Rattle.block.specs.declared.BlockMap.{BlockMap}
+
+-- ---- the fields of a map: 0 is the low configuration, 1 the endpoints, 2 the extra field, 3 the weights
+abbrev pub startOf : BlockMap → ℕ → ℕ
+startOf m i = getD (m .lowat ∷ m .endat ∷ m .extraat ∷ m .weightat ∷ []) i 0
+
+abbrev pub lengthOf : BlockMap → ℕ → ℕ
+lengthOf m i = getD (m .lowlen ∷ m .endlen ∷ m .extralen ∷ m .weightlen ∷ []) i 0
+
+-- bit k stands in field i
+abbrev pub In : BlockMap → ℕ → ℕ → Type 0
+In m i k = (startOf m i ≤ k) × (k < startOf m i + lengthOf m i)
+
+-- bit k of sixteen bytes
+abbrev pub bitOf : List ℕ → ℕ → ℕ
+bitOf s k = bitsAt (bytes 16 s) k 1
+
+-- ---- the endpoints' range: q, in which n values stand between the low configuration and the extra field, and no wider one does
+pub record WidestRange (m : BlockMap) (n q : ℕ) : Type 0 where
+  pub least : 4 ≤ q
+  pub most : q ≤ 20
+  pub top : m .top ≡ topOf q
+  pub length : m .endlen ≡ cost q n
+  pub fits : m .endat + cost q n ≤ m .extraat
+  pub widest : (r : ℕ) → q < r → r ≤ 20 → m .extraat < m .endat + cost r n
+
+-- ---- channels: 0 to 3 for red, green, blue and alpha
+-- of a word
+abbrev pub channelIn : ℕ → ℕ → ℕ
+channelIn w c = bitsAt w (getD (16 ∷ 8 ∷ 0 ∷ 24 ∷ []) c 0) 8
+
+-- of a pair of endpoints: how it is read, and its two ends
+abbrev pub markOf : Endpoints → ℕ → Mark
+markOf e c = cond (eqb c 3) (e .alpha) (e .color)
+
+abbrev pub firstOf : Endpoints → ℕ → ℕ
+firstOf e c = getD (e .r0 ∷ e .g0 ∷ e .b0 ∷ e .a0 ∷ []) c 0
+
+abbrev pub secondOf : Endpoints → ℕ → ℕ
+secondOf e c = getD (e .r1 ∷ e .g1 ∷ e .b1 ∷ e .a1 ∷ []) c 0
+
+-- ---- the parts of the block s
+abbrev pub params : List ℕ → ℕ → ℕ → Params
+params s bw bh = paramsOf (bytes 16 s) bw bh
+
+abbrev pub infilled : List ℕ → ℕ → ℕ → List ℕ
+infilled s bw bh = weightsIn (params s bw bh) bw bh (weightsField (params s bw bh .map) (bytes 16 s))
+
+-- the endpoints of the partition of texel t
+abbrev pub endsAt : List ℕ → ℕ → ℕ → ℕ → Endpoints
+endsAt s bw bh t = getD (endsOf (params s bw bh) (endsField (params s bw bh .map) (bytes 16 s))) (getD (partitionsIn (params s bw bh) bw bh) t 0) nothing
+
+-- ---- what two blocks share at a footprint, whatever the room and the output
+pub record Same (s s′ : List ℕ) (bw bh : ℕ) : Type 0 where
+  pub answer : (room : ℕ) → answerOf s bw bh room ≡ answerOf s′ bw bh room
+  pub map : blockMap s bw bh ≡ blockMap s′ bw bh
+  pub words : (out : List ℕ) → paintedOf s bw bh out ≡ paintedOf s′ bw bh out
+
+-- ---- the demand
+pub record Bounded (s : List ℕ) (bw bh : ℕ) : Type 0 where
+  -- its fields lie within the 128 bits, and share no bit
+  pub within : (i k : ℕ) → In (blockMap s bw bh) i k → k < 128
+  pub disjoint : (i j k : ℕ) → In (blockMap s bw bh) i k → In (blockMap s bw bh) j k → i ≡ j
+  -- its endpoint range is the widest that fits
+  pub range : WidestRange (blockMap s bw bh) (params s bw bh .config .values) (params s bw bh .range)
+  -- infilled weights are in 0..64
+  pub weights : (i : ℕ) → getD (infilled s bw bh) i 0 ≤ 64
+  -- LDR channels lie between their endpoints
+  pub channels : (t c : ℕ) → c < 4 → markOf (endsAt s bw bh t) c ≡ Ldr
+      → Within (firstOf (endsAt s bw bh t) c) (secondOf (endsAt s bw bh t) c) (channelIn (blockWord (bytes 16 s) bw bh t) c)
+  -- no bit outside the map changes anything
+  pub local : (s′ : List ℕ) → length s′ ≡ 16 → ((i k : ℕ) → In (blockMap s bw bh) i k → bitOf s k ≡ bitOf s′ k) → Same s s′ bw bh

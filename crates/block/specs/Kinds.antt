@@ -1,0 +1,88 @@
+-- What is painted on every block that is void, reserved or breaks a rule, at a listed footprint with room.
+-- Assumes nothing.
+use mathlib.Core.Path.{_≡_, refl, sym, ap, _∙_}
+use mathlib.Core.Bool.{Bool, true, false, _||_, _&&_}
+use mathlib.Core.List.{List}
+use mathlib.Core.Logic.{_⊎_, ⊎-elim}
+use Prim.Native.Nat.{ℕ, _+_, _*_, _≤_, _<_}
+use native.Mathlib.Omega.{arith}
+use lib.Dec.{eqb}
+use lib.ListN.{length}
+use borrow.Author.Tests.{eq-eqb, ne-eqb, lt-ltb, le-ltb}
+use Rattle.laws.specs.Lists.{put, put-same}
+use Rattle.bits.specs.Bits.{bitsAt, bytes}
+use Rattle.bits.specs.BitLaws.{locality}
+use Rattle.params.specs.Blocks.{listed, answer, lowOf, paramsOf}
+use Rattle.params.specs.Config.{isVoid, isReserved, confLen}
+use Rattle.params.specs.Laws.{answer-is, answer-1, answer-10, conf-least}
+use Rattle.block.specs.Block.{voidWord, magenta, wordOfParams, blockWord, answerOf, paintedOf}
+
+-- ---- what is stated
+-- sixteen bytes at a listed footprint, with room
+pub record Accepted (s : List ℕ) (bw bh places : ℕ) : Type 0 where
+  pub sixteen : length s ≡ 16
+  pub footprint : listed bw bh ≡ true
+  pub room : bw * bh ≤ places
+
+-- the answer a, and the word w at every texel
+pub record OneColour (s : List ℕ) (bw bh : ℕ) (out : List ℕ) (a w : ℕ) : Type 0 where
+  pub answer : answerOf s bw bh (length out) ≡ a
+  pub words : paintedOf s bw bh out ≡ put (λ (t : ℕ). w) 0 (bw * bh) out
+
+-- byte 0 is 0xFC and bit 8 is 1
+abbrev pub Void : ℕ → Type 0
+Void v = bitsAt v 0 9 ≡ 0x1fc
+
+-- bits 0 to 3 all 0, or bits 0 and 1 both 0 with bits 6, 7, 8 all 1
+abbrev pub Reserved : ℕ → Type 0
+Reserved v = (bitsAt v 0 4 ≡ 0) ⊎ ((bitsAt v 0 2 ≡ 0) × (bitsAt v 6 3 ≡ 7))
+
+-- ---- the first bits of a block are those of its low configuration
+low-bits-are : (v s n : ℕ) → s + n ≤ 17 → bitsAt (lowOf v) s n ≡ bitsAt v s n
+unfolding lowOf
+low-bits-are v s n h =
+    let p = bitsAt v 11 2 + 1 in
+    sym (locality v 0 (confLen p) s n (omega (arith, conf-least p))) ∙ ap (λ (k : ℕ). bitsAt v k n) (omega arith)
+
+void-is : (v : ℕ) → Void v → isVoid (lowOf v) ≡ true
+unfolding isVoid
+void-is v h = rw (low-bits-are v 0 9 (omega arith)) (eq-eqb (bitsAt v 0 9) 0x1fc h)
+
+not-void-is : (v : ℕ) → (Void v → ⊥) → isVoid (lowOf v) ≡ false
+unfolding isVoid
+not-void-is v h = rw (low-bits-are v 0 9 (omega arith)) (ne-eqb (bitsAt v 0 9) 0x1fc h)
+
+or-true : (b : Bool) → b || true ≡ true
+or-true true = refl
+or-true false = refl
+
+reserved-is : (v : ℕ) → Reserved v → isReserved (lowOf v) ≡ true
+unfolding isReserved
+reserved-is v r =
+    rw (low-bits-are v 0 4 (omega arith), low-bits-are v 0 2 (omega arith), low-bits-are v 6 3 (omega arith))
+    (⊎-elim (λ z. rw (eq-eqb (bitsAt v 0 4) 0 z)) (λ z. rw (eq-eqb (bitsAt v 0 2) 0 (z .0), eq-eqb (bitsAt v 6 3) 7 (z .1)) (or-true (eqb (bitsAt v 0 4) 0))) r)
+
+-- ---- one colour
+module _ (s : List ℕ) (bw bh : ℕ) (out : List ℕ) (h : Accepted s bw bh (length out)) where
+  answer-in : answerOf s bw bh (length out) ≡ paramsOf (bytes 16 s) bw bh .answer
+  unfolding answerOf
+  answer-in = rw (eq-eqb (length s) 16 (h .sixteen), h .footprint, le-ltb (length out) (bw * bh) (h .room))
+
+  one-colour : (a w : ℕ) → paramsOf (bytes 16 s) bw bh .answer ≡ a → a < 20 → ((t : ℕ) → blockWord (bytes 16 s) bw bh t ≡ w) → OneColour s bw bh out a w
+  unfolding paintedOf
+  one-colour a w e l p = record { answer = answer-in ∙ e; words = rw (answer-in, e, lt-ltb a 20 l) (put-same _ _ 0 (bw * bh) out (λ k x y. p k)) }
+
+  -- ---- the theorems
+  pub void-painted : Void (bytes 16 s) → OneColour s bw bh out 1 (voidWord (bytes 16 s))
+  unfolding blockWord wordOfParams
+  void-painted v =
+      let e : paramsOf (bytes 16 s) bw bh .answer ≡ 1 = answer-is (bytes 16 s) bw bh ∙ answer-1 (lowOf (bytes 16 s)) bw bh (void-is (bytes 16 s) v) in
+      one-colour 1 _ e (omega arith) (λ t. rw e)
+
+  pub refused-painted : (a : ℕ) → paramsOf (bytes 16 s) bw bh .answer ≡ a → 10 ≤ a → a < 20 → OneColour s bw bh out a magenta
+  unfolding blockWord wordOfParams
+  refused-painted a e l k = one-colour a magenta e k (λ t. rw (e, ne-eqb a 0 (λ z. omega arith), ne-eqb a 1 (λ z. omega arith)))
+
+  pub reserved-painted : Reserved (bytes 16 s) → (Void (bytes 16 s) → ⊥) → OneColour s bw bh out 10 magenta
+  reserved-painted r n =
+      refused-painted 10 (answer-is (bytes 16 s) bw bh ∙ answer-10 (lowOf (bytes 16 s)) bw bh (not-void-is (bytes 16 s) n) (reserved-is (bytes 16 s) r)) (omega arith) (omega arith)
