@@ -1,4 +1,4 @@
--- Document 01's table of values, P1 to P12, in one statement. Each is computed from the definitions.
+-- Document 01's table of values, P1 to P12, in one statement. Each is computed from the definitions, those of a layer in that layer.
 -- Assumes nothing.
 use mathlib.Core.Path.{_≡_, refl}
 use mathlib.Core.List.{List, [], _∷_}
@@ -9,21 +9,23 @@ use Rattle.bits.specs.Bits.{bitsAt, bytes, reversed}
 use Rattle.sequence.specs.Ranges.{ranges, rangeOf, tops, topOf}
 use Rattle.sequence.specs.Sequence.{sizeOf, totalOf, digitsOf, valueIn, groupOf, valueAt, valuesOf}
 use Rattle.sequence.specs.Patterns.{copies, repeated, spelt}
-use Rattle.half.specs.Half.{hdrByte, voidByte}
+use Rattle.half.specs.Half.{voidByte}
 use Rattle.params.specs.Ranges.{cost, widest}
 use Rattle.params.specs.Config.{isVoid, isReserved, lacksDH, gridLow, gridHigh, gridOf as modeGrid, weightR, weightH, weightD, partsOf, numberOf, modeBase, classOf, restOf, modeOf, valuesTo, confLen, modeBits, configOf}
 use Rattle.params.specs.Blocks.{oneOf2, listed, endVerdict, verdict, answer, lowOf, mapOf, channelOf, upperOf, legal, refused, paramsOf}
 use Rattle.endpoints.specs.Patterns.{tritRows, quintRows}
 use Rattle.endpoints.specs.Unquantised.{byRow, unquantise, endpointValue, endpointValues}
 use Rattle.endpoints.specs.Ldr.{baseOf, offsetOf, luminance}
-use Rattle.endpoints.specs.Hdr.{rgb, hdr, opaque, given, swapped}
-use Rattle.endpoints.specs.Hdr11.{crateOffset, elevenRows, offsetBits, elevenMode, elevenMajor, elevenPart, under, elevenFirst, elevenSecond, hdr11}
+use Rattle.endpoints.specs.Hdr.{rgb, hdr, opaque}
 use Rattle.endpoints.specs.Endpoints.{byMode, endpointsOf, valuesAt, countTo, partitionEndpoints, endpointsList}
+use Rattle.endpoints.specs.Values.{ofList, values as endpoint-values}
 use Rattle.weights.specs.Weights.{alone, table, joined, digit, expanded, raised, weightOf}
+use Rattle.weights.specs.Values.{values as weight-values}
 use Rattle.weights.specs.Infill.{stepOf, placeOf, factors, dot, infilled, infillAt, texelOf, infillOf, gridOf, weightAt, weightsOf}
-use Rattle.blend.specs.Blend.{between, expand, crateByte, ldrChannel, bent, halfOf, hdrChannel, wordOf}
+use Rattle.blend.specs.Blend.{between, expand, crateByte, ldrChannel, hdrChannel, wordOf}
+use Rattle.blend.specs.Values.{values as blend-values}
 use Rattle.paint.specs.Texels.{channelBy, wordBy, planeOf, texelWord}
-use Rattle.block.specs.Block.{endsOf, weightsIn, partitionsIn, ordinaryWord, voidWord, magenta, wordOfParams, blockWord, answerOf, paintedOf, mapAnswer, reportOf, blockMap}
+use Rattle.block.specs.Block.{endsOf, weightsIn, partitionsIn, ordinaryWord, voidWord, wordOfParams, blockWord, answerOf, paintedOf, mapAnswer, reportOf, blockMap}
 
 -- P1's block; with byte 8 set to FF; P3's block; sixteen zero bytes
 pub p1 : List ℕ
@@ -66,7 +68,7 @@ pub record Values : Type 0 where
   pub P9 : hdrChannel 0x700 0x700 0 ≡ 127
   pub P10 : hdrChannel 0x780 0x780 0 ≡ 255
   -- the standard has the first green 1032
-  pub P11 : endpointsOf 11 (valuesAt (128 ∷ 0 ∷ 0 ∷ 0 ∷ 127 ∷ 0 ∷ []) 0) ≡ hdr (rgb 1024 0 1024) (rgb 1024 1024 1024) opaque
+  pub P11 : ofList 11 (128 ∷ 0 ∷ 0 ∷ 0 ∷ 127 ∷ 0 ∷ []) ≡ hdr (rgb 1024 0 1024) (rgb 1024 1024 1024) opaque
   -- offsets with 32 added: -1, and -32
   pub P12-offset : offsetOf 255 ≡ 31
   pub P12-base : baseOf 255 255 ≡ 255
@@ -74,7 +76,7 @@ pub record Values : Type 0 where
   pub P12-zero : baseOf 0x40 0 ≡ 0
 
 pub values : Values
-unfolding listOf mapAt put bitsAt bytes reversed ranges rangeOf tops topOf sizeOf totalOf digitsOf valueIn groupOf valueAt valuesOf copies repeated spelt hdrByte voidByte cost widest isVoid isReserved lacksDH gridLow gridHigh modeGrid weightR weightH weightD partsOf numberOf modeBase classOf restOf modeOf valuesTo confLen modeBits configOf oneOf2 listed endVerdict verdict answer lowOf mapOf channelOf upperOf legal refused paramsOf tritRows quintRows byRow unquantise endpointValue endpointValues baseOf offsetOf luminance given swapped crateOffset elevenRows offsetBits elevenMode elevenMajor elevenPart under elevenFirst elevenSecond hdr11 byMode endpointsOf valuesAt countTo partitionEndpoints endpointsList alone table joined digit expanded raised weightOf stepOf placeOf factors dot infilled infillAt texelOf infillOf gridOf weightAt weightsOf between expand crateByte bent halfOf channelBy wordBy planeOf texelWord endsOf weightsIn partitionsIn ordinaryWord voidWord wordOfParams blockWord answerOf paintedOf mapAnswer reportOf blockMap p1 p2 p3 p4 before after
+unfolding listOf mapAt put bitsAt bytes reversed ranges rangeOf tops topOf sizeOf totalOf digitsOf valueIn groupOf valueAt valuesOf copies repeated spelt voidByte cost widest isVoid isReserved lacksDH gridLow gridHigh modeGrid weightR weightH weightD partsOf numberOf modeBase classOf restOf modeOf valuesTo confLen modeBits configOf oneOf2 listed endVerdict verdict answer lowOf mapOf channelOf upperOf legal refused paramsOf tritRows quintRows byRow unquantise endpointValue endpointValues luminance byMode endpointsOf valuesAt countTo partitionEndpoints endpointsList alone table joined digit expanded raised weightOf stepOf placeOf factors dot infilled infillAt texelOf infillOf gridOf weightAt weightsOf between expand crateByte channelBy wordBy planeOf texelWord endsOf weightsIn partitionsIn ordinaryWord voidWord wordOfParams blockWord answerOf paintedOf mapAnswer reportOf blockMap p1 p2 p3 p4 before after
 values =
     record {
       P1 = refl;
@@ -85,16 +87,16 @@ values =
       P3-words = refl;
       P4 = refl;
       P4-words = refl;
-      P5 = refl;
-      P6 = refl;
-      P7 = refl;
-      P8 = refl;
-      P8-286 = refl;
-      P9 = refl;
-      P10 = refl;
-      P11 = refl;
-      P12-offset = refl;
-      P12-base = refl;
-      P12-least = refl;
-      P12-zero = refl;
+      P5 = weight-values .P5;
+      P6 = weight-values .P6;
+      P7 = blend-values .P7;
+      P8 = blend-values .P8;
+      P8-286 = blend-values .P8-286;
+      P9 = blend-values .P9;
+      P10 = blend-values .P10;
+      P11 = endpoint-values .P11;
+      P12-offset = endpoint-values .P12-offset;
+      P12-base = endpoint-values .P12-base;
+      P12-least = endpoint-values .P12-least;
+      P12-zero = endpoint-values .P12-zero;
     }

@@ -330,12 +330,12 @@ fn no_fields(answer: usize) -> BlockMap
 pub fn block_map(s: &[u8], bw: usize, bh: usize) -> BlockMap
     ensures { λ r. ⌜ r ≡ blockMap (now (s .entry)) bw bh ⌝ }
 {
-    if s.len() != 16 {
-        return no_fields(20);
+    if s.len() == 16 {
+        if params::is_listed(bw, bh) {
+            let p = params::decode_block_params(bits::load(s), bw, bh);
+            return report(p.answer, p.map);
+        }
+        return no_fields(21);
     }
-    if params::is_listed(bw, bh) {
-        let p = params::decode_block_params(bits::load(s), bw, bh);
-        return report(p.answer, p.map);
-    }
-    no_fields(21)
+    no_fields(20)
 }

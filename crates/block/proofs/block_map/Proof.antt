@@ -5,12 +5,6 @@ use borrow.Author.Needs.{needs}
 use Rattle.block.proofs.block_map.Statement.{statement}
 use Rattle.block.proofs.block_map.Tie as tie
 
-no-fields-requires : tie.Need-no-fields-requires
-no-fields-requires c κs = search needs
-
-returns : tie.Need-returns
-returns c = c .no-fields .ensures ∙ map-not-sixteen _ _ _ (c .before .if1 .taken)
-
 is-listed-requires : tie.Need-is-listed-requires
 is-listed-requires c κs = search needs
 
@@ -23,29 +17,35 @@ decode-block-params-requires c κs = search needs
 report-requires : tie.Need-report-requires
 report-requires c κs = search needs
 
+returns : tie.Need-returns
+returns c =
+    c .report .ensures
+    ∙ map-block _ _ _ _ _ (c .before .before .before .before .before .if1 .taken) (sym (c .before .before .before .before .is-listed .ensures) ∙ c .before .before .before .if2 .taken) (c .before .before .load .ensures) (c .before .decode-block-params .ensures)
+
+no-fields-requires : tie.Need-no-fields-requires
+no-fields-requires c κs = search needs
+
 returns-2 : tie.Need-returns-2
 returns-2 c =
-    c .report .ensures
-    ∙ map-block _ _ _ _ _ (c .before .before .before .before .before .if1 .left) (sym (c .before .before .before .before .is-listed .ensures) ∙ c .before .before .before .if2 .taken) (c .before .before .load .ensures) (c .before .decode-block-params .ensures)
+    c .no-fields .ensures
+    ∙ map-not-listed _ _ _ (c .before .before .before .if1 .taken) (sym (c .before .before .is-listed .ensures) ∙ c .before .if2 .left)
 
 no-fields-requires-2 : tie.Need-no-fields-requires-2
 no-fields-requires-2 c κs = search needs
 
 returns-3 : tie.Need-returns-3
-returns-3 c =
-    c .no-fields2 .ensures
-    ∙ map-not-listed _ _ _ (c .before .before .before .if1 .left) (sym (c .before .before .is-listed .ensures) ∙ c .before .if2 .left)
+returns-3 c = c .no-fields2 .ensures ∙ map-not-sixteen _ _ _ (c .before .if1 .left)
 
 pub block-map-spec : {M : Type 1} → statement M
 block-map-spec =
     tie.close
     (tie.spec
-    no-fields-requires
-    returns
     is-listed-requires
     load-requires
     decode-block-params-requires
     report-requires
+    returns
+    no-fields-requires
     returns-2
     no-fields-requires-2
     returns-3)
