@@ -1,8 +1,8 @@
 //! The comparisons, one for each layer.
 
 use crate::asker::{Asker, Request, ANSWER};
-use crate::model::{self, FOOTPRINTS, TOPS};
-use crate::random::Random;
+use model::random::Random;
+use model::{blocks, FOOTPRINTS, MAGENTA, TOPS};
 use original::astc::{decode_astc_block, probe};
 use original::{bitreader, color, f16};
 
@@ -80,9 +80,9 @@ fn u64_at(a: &Answer, i: usize) -> u64 {
 /// The values of a range's digit, 3, 5 or (plain) 0, and its plain bits.
 fn kind(q: usize) -> (usize, usize) {
     let levels = TOPS[q] + 1;
-    let digit = if levels % 3 == 0 {
+    let digit = if levels.is_multiple_of(3) {
         3
-    } else if levels % 5 == 0 {
+    } else if levels.is_multiple_of(5) {
         5
     } else {
         0
@@ -150,8 +150,8 @@ fn compare_tables(asker: &mut Asker) -> Result<bool, String> {
 /// Every range, count and direction at both places where endpoints start, and every single value of every range.
 fn compare_sequences(asker: &mut Asker, random: &mut Random, samples: u64) -> Result<bool, String> {
     let mut requests = vec![];
-    for q in 0..21 {
-        for v in 0..=TOPS[q] {
+    for (q, top) in TOPS.into_iter().enumerate() {
+        for v in 0..=top {
             requests.push(Request::new(SEQUENCE, &[q, 1, 17, 0], with_value(17, v)));
         }
         for n in 1..=64 {
@@ -270,17 +270,15 @@ fn compare_params(asker: &mut Asker, random: &mut Random, samples: u64) -> Resul
         }
     }
     for (bw, bh) in FOOTPRINTS {
-        for low in 0..2048u16 {
-            let mut block = random.block();
-            block[0] = low as u8;
-            block[1] = block[1] & 0xf8 | (low >> 8) as u8;
+        for low in 0..2048 {
+            let block = blocks::with_first_bits(low, random);
             requests.push(Request::new(PARAMS, &[bw, bh], block));
         }
         for _ in 0..samples / 4 {
             requests.push(Request::new(
                 PARAMS,
                 &[bw, bh],
-                model::likely(random, bw, bh),
+                blocks::likely(random, bw, bh),
             ));
         }
     }
@@ -315,8 +313,8 @@ fn values_of(mode: usize) -> usize {
 /// Every value of every range in mode 0, and all modes of one partition and of several, in every range that fits.
 fn compare_endpoints(asker: &mut Asker, random: &mut Random, samples: u64) -> Result<bool, String> {
     let mut requests = vec![];
-    for q in 4..21 {
-        for v in 0..=TOPS[q] {
+    for (q, top) in TOPS.into_iter().enumerate().skip(4) {
+        for v in 0..=top {
             requests.push(Request::new(
                 ENDPOINTS,
                 &[1, 0, 0, 0, 0, q],
@@ -386,8 +384,8 @@ fn compare_endpoints(asker: &mut Asker, random: &mut Random, samples: u64) -> Re
 /// Every value of every range, and every grid, range and plane count at every footprint.
 fn compare_weights(asker: &mut Asker, random: &mut Random, samples: u64) -> Result<bool, String> {
     let mut requests = vec![];
-    for q in 0..12 {
-        for v in 0..=TOPS[q] {
+    for (q, top) in TOPS.into_iter().enumerate().take(12) {
+        for v in 0..=top {
             let block = with_value(0, v);
             let reversed = u128::from_le_bytes(block).reverse_bits().to_le_bytes();
             requests.push(Request::new(WEIGHTS, &[4, 4, 4, 4, 1, q], reversed));
@@ -534,27 +532,9 @@ fn compare_colors(asker: &mut Asker, random: &mut Random, samples: u64) -> Resul
     Ok(tally.end())
 }
 
-/// The words that an answer holds, what a word is before the block is painted, and the word of a refused block.
+/// The words that an answer holds, and what a word is before the block is painted.
 const WORDS: usize = 71;
 const BEFORE: u32 = 0x1234_5678;
-const MAGENTA: u32 = 0xffff_00ff;
-
-/// A void block: halves or 16-bit numbers, the special ones among them, and any extents.
-fn void(random: &mut Random) -> [u8; 16] {
-    const SPECIAL: [u16; 8] = [
-        0x0000, 0x8000, 0x3c00, 0x3c01, 0x7c00, 0xfc00, 0x7c01, 0xbc00,
-    ];
-    let mut block = random.block();
-    block[0] = 0xfc;
-    block[1] |= 1;
-    for i in 0..4 {
-        if random.below(2) == 0 {
-            let half = SPECIAL[random.below(8)];
-            block[8 + 2 * i..10 + 2 * i].copy_from_slice(&half.to_le_bytes());
-        }
-    }
-    block
-}
 
 /// Whole blocks, and the words after them, which stay: the first eleven bits exhaustively at every footprint, any block, blocks
 /// that lean to legal ones, these with one bit changed, and void blocks; also footprints that are not listed.
@@ -571,21 +551,15 @@ fn compare_blocks(asker: &mut Asker, random: &mut Random, samples: u64) -> Resul
         }
     }
     for (bw, bh) in FOOTPRINTS {
-        for low in 0..2048u16 {
-            let mut block = random.block();
-            block[0] = low as u8;
-            block[1] = block[1] & 0xf8 | (low >> 8) as u8;
-            ask(bw, bh, block);
+        for low in 0..2048 {
+            ask(bw, bh, blocks::with_first_bits(low, random));
         }
         for i in 0..samples / 10 {
-            let mut block = model::likely(random, bw, bh);
+            let mut block = blocks::likely(random, bw, bh);
             match i % 10 {
                 0 => block = random.block(),
-                1 => block = void(random),
-                2 | 3 => {
-                    let bit = random.below(128);
-                    block[bit / 8] ^= 1 << (bit % 8);
-                }
+                1 => block = blocks::void(random),
+                2 | 3 => block = blocks::flipped(block, random.below(128)),
                 _ => {}
             }
             ask(bw, bh, block);

@@ -7,8 +7,6 @@
 
 mod asker;
 mod leaves;
-mod model;
-mod random;
 
 use std::process::ExitCode;
 

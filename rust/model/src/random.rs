@@ -7,7 +7,12 @@ impl Random {
         Random(seed)
     }
 
-    pub fn next(&mut self) -> u64 {
+    /// The source of a part of a run, so that parts give the same numbers in any order.
+    pub fn part(seed: u64, number: u64) -> Self {
+        Random(Random(Random(seed).number() ^ number).number())
+    }
+
+    pub fn number(&mut self) -> u64 {
         self.0 = self.0.wrapping_add(0x9e37_79b9_7f4a_7c15);
         let mut z = self.0;
         z = (z ^ (z >> 30)).wrapping_mul(0xbf58_476d_1ce4_e5b9);
@@ -17,13 +22,13 @@ impl Random {
 
     /// A number below `n`.
     pub fn below(&mut self, n: usize) -> usize {
-        (self.next() % n as u64) as usize
+        (self.number() % n as u64) as usize
     }
 
     pub fn block(&mut self) -> [u8; 16] {
         let mut block = [0; 16];
-        block[..8].copy_from_slice(&self.next().to_le_bytes());
-        block[8..].copy_from_slice(&self.next().to_le_bytes());
+        block[..8].copy_from_slice(&self.number().to_le_bytes());
+        block[8..].copy_from_slice(&self.number().to_le_bytes());
         block
     }
 }
