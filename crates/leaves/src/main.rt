@@ -520,29 +520,6 @@ fn reply_color(out: &mut [u8; 288], ask: &[u8; 32]) {
     put_u32(out, 0, blend::color(ask[1], ask[2], ask[3], ask[4]));
 }
 
-fn put_words(out: &mut [u8; 288], words: &[u32; 216], first: usize)
-    requires { ⌜ first ≤ 142 ⌝ }
-{
-    let mut i = 0;
-    while i < 71 {
-        put_u32(out, 4 + 4 * i, words[first + i]);
-        i += 1;
-    }
-}
-
-// The answer of a block, and as many of its words as there is room for: the third number says from which third on. A word that
-// was not painted stays as it was.
-fn reply_block(out: &mut [u8; 288], ask: &[u8; 32]) {
-    let s = &ask[..];
-    let mut words = [0x1234_5678u32; 216];
-    put_pair(
-        out,
-        0,
-        block::decode_astc_block(&s[16..32], at(ask, 1), at(ask, 2), &mut words),
-    );
-    put_words(out, &words, at(ask, 3) % 3 * 71);
-}
-
 fn reply(out: &mut [u8; 288], ask: &[u8; 32]) {
     let what = at(ask, 0);
     match what {
@@ -556,7 +533,6 @@ fn reply(out: &mut [u8; 288], ask: &[u8; 32]) {
         8 => reply_partition(out, ask),
         9 => reply_blend(out, ask),
         10 => reply_color(out, ask),
-        11 => reply_block(out, ask),
         _ => {}
     }
 }

@@ -2,8 +2,8 @@
 
 use crate::asker::{Asker, Request, ANSWER};
 use model::random::Random;
-use model::{blocks, FOOTPRINTS, MAGENTA, TOPS};
-use original::astc::{decode_astc_block, probe};
+use model::{blocks, FOOTPRINTS, TOPS};
+use original::astc::probe;
 use original::{bitreader, color, f16};
 
 const BITS: u8 = 1;
@@ -16,7 +16,6 @@ const WEIGHTS: u8 = 7;
 const PARTITION: u8 = 8;
 const BLEND: u8 = 9;
 const COLOR: u8 = 10;
-const BLOCK: u8 = 11;
 
 type Answer = [u8; ANSWER];
 
@@ -532,64 +531,6 @@ fn compare_colors(asker: &mut Asker, random: &mut Random, samples: u64) -> Resul
     Ok(tally.end())
 }
 
-/// The words that an answer holds, and what a word is before the block is painted.
-const WORDS: usize = 71;
-const BEFORE: u32 = 0x1234_5678;
-
-/// Whole blocks, and the words after them, which stay: the first eleven bits exhaustively at every footprint, any block, blocks
-/// that lean to legal ones, these with one bit changed, and void blocks; also footprints that are not listed.
-fn compare_blocks(asker: &mut Asker, random: &mut Random, samples: u64) -> Result<bool, String> {
-    let mut requests = vec![];
-    let mut ask = |bw: usize, bh: usize, block: [u8; 16]| {
-        for third in 0..=bw * bh / WORDS {
-            requests.push(Request::new(BLOCK, &[bw, bh, third], block));
-        }
-    };
-    for w in 0..14 {
-        for h in 0..14 {
-            ask(w, h, random.block());
-        }
-    }
-    for (bw, bh) in FOOTPRINTS {
-        for low in 0..2048 {
-            ask(bw, bh, blocks::with_first_bits(low, random));
-        }
-        for i in 0..samples / 10 {
-            let mut block = blocks::likely(random, bw, bh);
-            match i % 10 {
-                0 => block = random.block(),
-                1 => block = blocks::void(random),
-                2 | 3 => block = blocks::flipped(block, random.below(128)),
-                _ => {}
-            }
-            ask(bw, bh, block);
-        }
-    }
-    let mut tally = Tally::new("blocks");
-    let mut seen = [false; 22];
-    asker.ask(&requests, |r, a| {
-        let (bw, bh) = (r.number(0), r.number(1));
-        let mut theirs = [BEFORE; 3 * WORDS];
-        let mut answer = 21;
-        if FOOTPRINTS.contains(&(bw, bh)) {
-            answer = model::answer(r.block(), bw, bh);
-            match answer {
-                0 | 1 | 10 => decode_astc_block(r.block(), bw, bh, &mut theirs),
-                _ => theirs[..bw * bh].fill(MAGENTA),
-            }
-        }
-        seen[answer as usize] = true;
-        tally.same(r, "answer", u16_at(a, 0), u16::from(answer));
-        let ours: Vec<u32> = (0..WORDS).map(|i| u32_at(a, 4 + 4 * i)).collect();
-        let first = r.number(2) * WORDS;
-        tally.same(r, "words", &ours[..], &theirs[first..first + WORDS]);
-    })?;
-    for answer in [0, 1, 10, 11, 12, 13, 14, 15, 16, 21] {
-        assert!(seen[answer], "no block with answer {answer} was compared");
-    }
-    Ok(tally.end())
-}
-
 /// All comparisons; whether every one found no difference.
 pub fn compare(
     program: &str,
@@ -611,7 +552,6 @@ pub fn compare(
         compare_partitions(&mut asker)?,
         compare_blends(&mut asker, &mut random, samples)?,
         compare_colors(&mut asker, &mut random, samples)?,
-        compare_blocks(&mut asker, &mut random, samples)?,
     ];
     Ok(results.iter().all(|&r| r))
 }

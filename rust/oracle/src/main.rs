@@ -1,7 +1,7 @@
 //! Holds the proved layers to the original.
 //!
 //! `oracle leaves [--seed N] [--samples N] PROGRAM [ARGUMENT ..]` starts the proved program `leaves` by the given words, asks it
-//! for the values of every layer, the block among them, and compares them with the original's own functions: over the whole
+//! for the values of every layer below the block, and compares them with the original's own functions: over the whole
 //! domain where that is small, over seeded samples where it is not. It prints a count for each comparison and ends with
 //! status 1 at a difference.
 //!

@@ -36,9 +36,6 @@ reply-blend-requires c κs = tt
 reply-color-requires : tie.Need-reply-color-requires
 reply-color-requires c κs = tt
 
-reply-block-requires : tie.Need-reply-block-requires
-reply-block-requires c κs = tt
-
 returns : tie.Need-returns
 returns c = tt
 
@@ -72,9 +69,6 @@ returns-10 c = tt
 returns-11 : tie.Need-returns-11
 returns-11 c = tt
 
-returns-12 : tie.Need-returns-12
-returns-12 c = tt
-
 pub reply-spec : {M : Type 1} → statement M
 reply-spec =
     tie.close
@@ -90,7 +84,6 @@ reply-spec =
     reply-partition-requires
     reply-blend-requires
     reply-color-requires
-    reply-block-requires
     returns
     returns-2
     returns-3
@@ -101,5 +94,4 @@ reply-spec =
     returns-8
     returns-9
     returns-10
-    returns-11
-    returns-12)
+    returns-11)
