@@ -107,3 +107,7 @@ placed-next {s} {s′} {s″} {at} {t} {u} {m} {n} p q h = record { line = q .li
         ∙ ap (λ (l : List ℕ). front ++ u ++ l) dropped
         ∙ ap (λ (l : List ℕ). l ++ drop (m + length u) s) (append-assoc (take at s) t u)
         ∙ ap (λ (k : ℕ). take at s ++ (t ++ u) ++ drop k s) count
+
+-- a promise of a placed text allows one outcome
+pub placed-one : {s x y t : List ℕ} {at r q : ℕ} → Placed s at t x r → Placed s at t y q → (x ≡ y) × (r ≡ q)
+placed-one p q = (p .line ∙ sym (q .line), p .next ∙ sym (q .next))
