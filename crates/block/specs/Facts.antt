@@ -56,6 +56,8 @@ pub record Footprint (bw bh : ℕ) : Type 0 where
   pub side : isSide bw ≡ true
   pub side-high : isSide bh ≡ true
   pub sides : Sides bw bh
+  pub wide : (4 ≤ bw) × (bw ≤ 12)
+  pub high : (4 ≤ bh) × (bh ≤ 12)
   pub texels : bw * bh ≤ 144
 
 is-true : (b : Bool) → T b → b ≡ true
@@ -81,12 +83,15 @@ footprint bw bh e = go (decLt bw 13) (decLt bh 13)
     go (yes p) (yes q) =
         let t : T (both (isSide bw) (isSide bh)) = in-then (listed bw bh) (both (isSide bw) (isSide bh)) (all-at (sidesTest bw) 13 (all-at sidesAt 13 tt bw p) bh q) e in
         let s : isSide bw ≡ true = is-true (isSide bw) (both-left (isSide bw) (isSide bh) t) in
+        let r : isSide bh ≡ true = is-true (isSide bh) (both-right (isSide bw) (isSide bh) t) in
         let u : bw ≤ 12 = omega arith in
         let w : bh ≤ 12 = omega arith in
         record {
           side = s;
-          side-high = is-true (isSide bh) (both-right (isSide bw) (isSide bh) t);
+          side-high = r;
           sides = record { some = omega (arith, side-least bw p s); width = u; height = w };
+          wide = (side-least bw p s, u);
+          high = (side-least bh q r, w);
           texels = mul-le-mul u w;
         }
 

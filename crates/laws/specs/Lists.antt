@@ -63,12 +63,12 @@ tested f n s e t =
     is-listOf f n s e (λ k h. eqb→eq (getD s k 0) (f k) (at (λ (k x : ℕ). eqb x (f k)) s t k (rw e h)))
 
 -- ---- places filled anew
-length-mapAt : (g : ℕ → ℕ → ℕ) (i : ℕ) (s : List ℕ) → length (mapAt g i s) ≡ length s
+pub length-mapAt : (g : ℕ → ℕ → ℕ) (i : ℕ) (s : List ℕ) → length (mapAt g i s) ≡ length s
 unfolding mapAt
 length-mapAt g i [] = refl
 length-mapAt g i (x ∷ xs) = ap suc (length-mapAt g (suc i) xs)
 
-getD-mapAt : (g : ℕ → ℕ → ℕ) (i : ℕ) (s : List ℕ) (k : ℕ) → k < length s → getD (mapAt g i s) k 0 ≡ g (i + k) (getD s k 0)
+pub getD-mapAt : (g : ℕ → ℕ → ℕ) (i : ℕ) (s : List ℕ) (k : ℕ) → k < length s → getD (mapAt g i s) k 0 ≡ g (i + k) (getD s k 0)
 unfolding mapAt
 getD-mapAt g i [] k h = absurd (not-suc-le-zero h)
 getD-mapAt g i (x ∷ xs) zero h = ap (λ (m : ℕ). g m x) (sym (add-zero i))
