@@ -1,0 +1,162 @@
+-- Where a block's pixels stand in the image.
+-- Assumes nothing.
+use mathlib.Core.Path.{_≡_, sym, ap, _∙_}
+use Prim.Native.Nat.{ℕ, suc, _+_, _-_, _*_, _/_, _%_, _≤_, _<_, min}
+use native.Mathlib.Nat.{mul-comm, suc-mul, mul-le-mul, mul-le-mul-right, mod-lt, div-mul-le-self, div-add-mod', div-lt-iff-lt-mul}
+use native.Mathlib.Decide.{decLt}
+use native.Mathlib.Omega.{arith}
+use mathlib.Core.List.{List}
+use Rattle.laws.specs.Lists.{putAt}
+use lib.Arith.{digits-lt, digits-div, digits-mod}
+use Rattle.image.specs.Image.{alongOf, totalOf, pixelsOf, blockOf}
+use Rattle.image.specs.declared.Shape.{Shape}
+
+-- ---- blocks of a side along n pixels
+-- each starts inside
+pub starts-inside : (n side i : ℕ) → 0 < side → i < alongOf n side → i * side < n
+starts-inside n side i p h =
+    let q = alongOf n side in
+    let l : q * side ≤ n + (side - 1) = div-mul-le-self (n + (side - 1)) side in
+    let m : suc i * side ≤ q * side = mul-le-mul-right side h in
+    let s : suc i * side ≡ i * side + side = suc-mul i side in
+    omega arith
+
+-- every pixel is in one
+pub block-inside : (n side x : ℕ) → 0 < side → x < n → x / side < alongOf n side
+block-inside n side x p h = go (decLt (x / side) (alongOf n side))
+  where
+    q : ℕ
+    q = alongOf n side
+
+    clash : q ≤ x / side → ⊥
+    clash l =
+        let a : q * side ≤ x / side * side = mul-le-mul-right side l in
+        let b : x / side * side ≤ x = div-mul-le-self x side in
+        let c : q * side + (n + (side - 1)) % side ≡ n + (side - 1) = div-add-mod' (n + (side - 1)) side in
+        let d : (n + (side - 1)) % side < side = mod-lt (n + (side - 1)) p in
+        omega arith
+
+    go : Dec (x / side < q) → x / side < q
+    go (yes l) = l
+    go (no l) = absurd (clash (omega arith))
+
+-- ---- a shape that has pixels
+pub record Shaped (m : Shape) : Type 0 where
+  pub width : 0 < m .width
+  pub height : 0 < m .height
+  pub bw : 0 < m .bw
+  pub bh : 0 < m .bh
+
+-- the first column and row of block b, and how many it has in the image
+abbrev pub leftOf : Shape → ℕ → ℕ
+leftOf m b = b % alongOf (m .width) (m .bw) * m .bw
+
+abbrev pub topOf : Shape → ℕ → ℕ
+topOf m b = b / alongOf (m .width) (m .bw) * m .bh
+
+abbrev pub columnsOf : Shape → ℕ → ℕ
+columnsOf m b = min (m .bw) (m .width - leftOf m b)
+
+abbrev pub rowsOf : Shape → ℕ → ℕ
+rowsOf m b = min (m .bh) (m .height - topOf m b)
+
+-- where its row r starts
+abbrev pub rowAt : Shape → ℕ → ℕ → ℕ
+rowAt m b r = (topOf m b + r) * m .width + leftOf m b
+
+-- the texels of row r of a footprint are among its own
+pub texels-fit : (m : Shape) (b r : ℕ) → m .bw ≤ 12 → m .bh ≤ 12 → r < rowsOf m b → r * m .bw + columnsOf m b ≤ 144
+texels-fit m b r w h l =
+    let k : suc r * m .bw ≤ 12 * 12 = mul-le-mul {n₁ = suc r} {m₁ = m .bw} {n₂ = 12} {m₂ = 12} (omega arith) w in
+    let e : suc r * m .bw ≡ r * m .bw + m .bw = suc-mul r (m .bw) in
+    omega arith
+
+module _ (m : Shape) (s : Shaped m) (b : ℕ) (h : b < totalOf m) where
+  a : ℕ
+  a = alongOf (m .width) (m .bw)
+
+  pub some : 0 < alongOf (m .width) (m .bw)
+  some = let l : 0 / m .bw < alongOf (m .width) (m .bw) = block-inside (m .width) (m .bw) 0 (s .bw) (s .width) in omega arith
+
+  pub left-inside : leftOf m b < m .width
+  unfolding a
+  left-inside = starts-inside (m .width) (m .bw) (b % a) (s .bw) (mod-lt b some)
+
+  pub top-inside : topOf m b < m .height
+  unfolding a
+  top-inside = starts-inside (m .height) (m .bh) (b / a) (s .bh) (div-lt-iff-lt-mul some .1 (rw (mul-comm (alongOf (m .height) (m .bh)) a) h))
+
+  -- row r lies in the image
+  pub row-fits : (r : ℕ) → r < rowsOf m b → rowAt m b r + columnsOf m b ≤ pixelsOf m
+  row-fits r l =
+      let y : suc (topOf m b + r) ≤ m .height = omega (arith, top-inside) in
+      let w : suc (topOf m b + r) * m .width ≤ m .height * m .width = mul-le-mul-right (m .width) y in
+      let e : suc (topOf m b + r) * m .width ≡ (topOf m b + r) * m .width + m .width = suc-mul (topOf m b + r) (m .width) in
+      omega (arith, left-inside, mul-comm (m .width) (m .height))
+
+  -- the copied stretch, by the numbers of the code
+  module _ (r left top columns at : ℕ) (el : left ≡ leftOf m b) (et : top ≡ topOf m b) (ec : columns ≡ min (m .bw) (m .width - left)) (ea : at ≡ (top + r) * m .width + left) where
+    pub at-is : at ≡ rowAt m b r
+    at-is = ea ∙ rw (et, el)
+
+    pub columns-are : columns ≡ columnsOf m b
+    columns-are = ec ∙ rw el
+
+    pub stretch-fits : (len : ℕ) → m .bw ≤ 12 → m .bh ≤ 12 → r < rowsOf m b → pixelsOf m ≤ len → (r * m .bw + columns ≤ 144) × (at + columns ≤ len)
+    stretch-fits len w k l p = rw (at-is, columns-are) (texels-fit m b r w k l, omega (arith, row-fits r l))
+
+    pub stretch-is : (f : ℕ → ℕ) (t u : List ℕ) → u ≡ putAt f at columns t → u ≡ putAt f (rowAt m b r) (columnsOf m b) t
+    stretch-is f t u e = rw (at-is, columns-are) at e
+
+  -- ---- a place in row r of the block
+  pub record InRow (r k : ℕ) : Type 0 where
+    pub pixel : k < pixelsOf m
+    pub block : blockOf m k ≡ b
+    pub row : k / m .width % m .bh ≡ r
+    pub column : k % m .width % m .bw ≡ k - rowAt m b r
+
+  pub in-row : (r k : ℕ) → r < rowsOf m b → rowAt m b r ≤ k → k < rowAt m b r + columnsOf m b → InRow r k
+  unfolding a
+  in-row r k l p q =
+      let i = k - rowAt m b r in
+      let x : leftOf m b + i < m .width = omega arith in
+      let y : topOf m b + r < m .height = omega arith in
+      let ib : i < m .bw = omega arith in
+      let rb : r < m .bh = omega arith in
+      let e : k ≡ (topOf m b + r) * m .width + (leftOf m b + i) = omega arith in
+      let dv : k / m .width ≡ topOf m b + r = ap (λ (n : ℕ). n / m .width) e ∙ digits-div (topOf m b + r) x in
+      let md : k % m .width ≡ leftOf m b + i = ap (λ (n : ℕ). n % m .width) e ∙ digits-mod (topOf m b + r) x in
+      let ty : (topOf m b + r) / m .bh ≡ b / a = digits-div (b / a) rb in
+      let tr : (topOf m b + r) % m .bh ≡ r = digits-mod (b / a) rb in
+      let tx : (leftOf m b + i) / m .bw ≡ b % a = digits-div (b % a) ib in
+      let tc : (leftOf m b + i) % m .bw ≡ i = digits-mod (b % a) ib in
+      let z : k < m .height * m .width = rw (sym e) at (digits-lt y x) in
+      record {
+        pixel = rw (mul-comm (m .width) (m .height)) z;
+        block = rw (dv, md, ty, tx) (div-add-mod' b a);
+        row = rw (dv, tr);
+        column = rw (md, tc);
+      }
+
+  -- ---- a pixel of the block
+  pub record InBlock (k : ℕ) : Type 0 where
+    pub row : k / m .width % m .bh < rowsOf m b
+    pub from : rowAt m b (k / m .width % m .bh) ≤ k
+    pub before : k < rowAt m b (k / m .width % m .bh) + columnsOf m b
+
+  pub in-block : (k : ℕ) → k < pixelsOf m → blockOf m k ≡ b → InBlock k
+  unfolding a
+  in-block k p e =
+      let x = k % m .width in
+      let y = k / m .width in
+      let xl : x < m .width = mod-lt k (s .width) in
+      let yl : y < m .height = div-lt-iff-lt-mul (s .width) .1 (rw (mul-comm (m .height) (m .width)) p) in
+      let xb : x / m .bw < a = block-inside (m .width) (m .bw) x (s .bw) xl in
+      let by : y / m .bh ≡ b / a = sym (digits-div (y / m .bh) xb) ∙ ap (λ (n : ℕ). n / a) e in
+      let bx : x / m .bw ≡ b % a = sym (digits-mod (y / m .bh) xb) ∙ ap (λ (n : ℕ). n % a) e in
+      let yr : topOf m b + y % m .bh ≡ y = rw by at (div-add-mod' y (m .bh)) in
+      let xc : leftOf m b + x % m .bw ≡ x = rw bx at (div-add-mod' x (m .bw)) in
+      let rl : y % m .bh < m .bh = mod-lt y (s .bh) in
+      let cl : x % m .bw < m .bw = mod-lt x (s .bw) in
+      let kw : (topOf m b + y % m .bh) * m .width + x ≡ k = ap (λ (n : ℕ). n * m .width + x) yr ∙ div-add-mod' k (m .width) in
+      record { row = omega arith; from = omega arith; before = omega arith }

@@ -1,0 +1,284 @@
+// An image: its blocks painted row by row, whole or in steps.
+ghost use mathlib.Core.Path.{_≡_};
+ghost use mathlib.Core.Bool.{true, cond};
+ghost use Prim.Native.Nat.{ℕ, _+_, _-_, _*_, _^_, _≤_, _<_, min};
+ghost use lib.Dec.{leb};
+ghost use lib.ListN.{length};
+ghost use Rattle.laws.specs.Lists.{putAt};
+ghost use Rattle.block.specs.Block.{joinedAt, mapAnswer};
+ghost use Rattle.block.specs.Facts.{Tables};
+ghost use Rattle.image.specs.Image.{alongOf, totalOf, pixelsOf, texelOf, bytesOf, marked, isIn, paintedBlocks, badIn, isSide, refusalOf, imageOf, shape, refusedAt, movedBy, stepOf, stepped};
+ghost use Rattle.image.specs.Given.{Sides, Sized};
+ghost use Rattle.image.specs.Places.{Shaped, leftOf, topOf, rowsOf, columnsOf, rowAt};
+
+// The size of an image and the footprint of its blocks.
+pub struct Shape {
+    pub width: usize,
+    pub height: usize,
+    pub bw: usize,
+    pub bh: usize,
+}
+
+// An image on its way: the blocks before `next` are painted.
+pub struct Cursor {
+    pub width: usize,
+    pub height: usize,
+    pub bw: usize,
+    pub bh: usize,
+    pub next: usize,
+}
+
+// What a step comes to: its answer, the cursor for the next one, the blocks painted, and how many of them answered 10 to 16.
+pub struct Step {
+    pub answer: usize,
+    pub cursor: Cursor,
+    pub painted: usize,
+    pub bad: usize,
+}
+
+fn is_side(n: usize) -> bool
+    ensures { λ r. ⌜ r ≡ isSide n ⌝ }
+{
+    if n < 1 {
+        return false;
+    }
+    n <= 4096
+}
+
+fn smaller(a: usize, b: usize) -> usize
+    ensures { λ r. ⌜ r ≡ min a b ⌝ }
+{
+    if a < b {
+        return a;
+    }
+    b
+}
+
+// The blocks of a side along n pixels.
+fn along(n: usize, side: usize) -> usize
+    requires { ⌜ (n ≤ 4096) × ((0 < side) × (side ≤ 12)) ⌝ }
+    ensures { λ r. ⌜ (r ≡ alongOf n side) × (r ≤ 4107) ⌝ }
+{
+    (n + (side - 1)) / side
+}
+
+fn total(m: Shape) -> usize
+    requires { ⌜ Sides m ⌝ }
+    ensures { λ r. ⌜ (r ≡ totalOf m) × (r ≤ 16867449) ⌝ }
+{
+    along(m.width, m.bw) * along(m.height, m.bh)
+}
+
+// 0, or why an image with so many bytes and so much room is refused.
+pub fn refusal(m: Shape, len: usize, room: usize) -> usize
+    ensures { λ r. ⌜ r ≡ refusalOf m len room ⌝ }
+{
+    if params::is_listed(m.bw, m.bh) {
+        if is_side(m.width) {
+            if is_side(m.height) {
+                if len != 16 * total(m) {
+                    return 31;
+                }
+                if room < m.width * m.height {
+                    return 22;
+                }
+                return 0;
+            }
+            return 30;
+        }
+        return 30;
+    }
+    21
+}
+
+// Copies the words of n texels, from one on, to the output's places from one on.
+fn copy_row(h: &[u16; 288], from: usize, out: &mut [u32], to: usize, n: usize)
+    requires { ⌜ (from + n ≤ 144) × (to + n ≤ length (now out)) ⌝ }
+    ensures { λ _. ⌜ now (out .exit) ≡ putAt (λ (i : ℕ). joinedAt (now (h .entry)) (from + i)) to n (now (out .entry)) ⌝ }
+{
+    let mut i = 0;
+    while i < n {
+        out[to + i] = block::word(h, from + i);
+        i += 1;
+    }
+}
+
+// The first column of block b.
+fn left_of(m: Shape, b: usize) -> usize
+    requires { ⌜ (Sides m) × ((Shaped m) × (b < totalOf m)) ⌝ }
+    ensures { λ r. ⌜ (r ≡ leftOf m b) × (r < m .width) ⌝ }
+{
+    b % along(m.width, m.bw) * m.bw
+}
+
+// The first row of block b.
+fn top_of(m: Shape, b: usize) -> usize
+    requires { ⌜ (Sides m) × ((Shaped m) × (b < totalOf m)) ⌝ }
+    ensures { λ r. ⌜ (r ≡ topOf m b) × (r < m .height) ⌝ }
+{
+    b / along(m.width, m.bw) * m.bh
+}
+
+// Where the pixels of row y from column x on stand.
+fn place(m: Shape, y: usize, x: usize) -> usize
+    requires { ⌜ (Sides m) × ((y < m .height) × (x < m .width)) ⌝ }
+    ensures { λ r. ⌜ r ≡ y * m .width + x ⌝ }
+{
+    y * m.width + x
+}
+
+// Copies row r of block b, as far as it lies in the image.
+fn copy_columns(h: &[u16; 288], m: Shape, b: usize, r: usize, out: &mut [u32])
+    requires { ⌜ (Sides m) × ((Shaped m) × ((b < totalOf m) × ((pixelsOf m ≤ length (now out)) × (r < rowsOf m b)))) ⌝ }
+    ensures { λ _. ⌜ now (out .exit) ≡ putAt (λ (i : ℕ). joinedAt (now (h .entry)) (r * m .bw + i)) (rowAt m b r) (columnsOf m b) (now (out .entry)) ⌝ }
+{
+    let left = left_of(m, b);
+    let top = top_of(m, b);
+    let columns = smaller(m.bw, m.width - left);
+    copy_row(h, r * m.bw, out, place(m, top + r, left), columns);
+}
+
+// Copies the words of block b to its pixels, as far as it lies in the image.
+fn copy_block(h: &[u16; 288], m: Shape, b: usize, out: &mut [u32])
+    requires { ⌜ (Sides m) × ((Shaped m) × ((b < totalOf m) × (pixelsOf m ≤ length (now out)))) ⌝ }
+    ensures { λ _. ⌜ now (out .exit) ≡ marked (isIn m b (b + 1)) (λ (k : ℕ). joinedAt (now (h .entry)) (texelOf m k)) (now (out .entry)) ⌝ }
+{
+    let rows = smaller(m.bh, m.height - top_of(m, b));
+    let mut r = 0;
+    while r < rows {
+        copy_columns(h, m, b, r, out);
+        r += 1;
+    }
+}
+
+fn is_bad(a: usize) -> usize
+    ensures { λ r. ⌜ (r ≡ cond (leb 10 a) 1 0) × (r ≤ 1) ⌝ }
+{
+    if a < 10 {
+        return 0;
+    }
+    1
+}
+
+// Paints block b, and says by 1 that it answered 10 to 16.
+fn paint_block(
+    rev: &[u8; 256],
+    t: &[u16; 256],
+    q: &[u16; 128],
+    data: &[u8],
+    m: Shape,
+    b: usize,
+    out: &mut [u32],
+) -> usize
+    requires { ⌜ Tables (now rev) (now t) (now q) × (Sized m (length (now «data»)) (length (now out)) × (b < totalOf m)) ⌝ }
+    ensures { λ r. ⌜ ((r ≡ cond (leb 10 (mapAnswer (bytesOf (now («data» .entry)) b) (m .bw) (m .bh))) 1 0) × (r ≤ 1)) × (now (out .exit) ≡ paintedBlocks (now («data» .entry)) m b (b + 1) (now (out .entry))) ⌝ }
+{
+    let start = 16 * b;
+    let end = start + 16;
+    let mut h = [0u16; 288];
+    let a = block::decode_halves(rev, t, q, bits::load(&data[start..end]), m.bw, m.bh, &mut h);
+    copy_block(&h, m, b, out);
+    is_bad(a)
+}
+
+// Paints the blocks from one on to before another, and counts those that answered 10 to 16.
+fn paint_blocks(data: &[u8], m: Shape, first: usize, end: usize, out: &mut [u32]) -> usize
+    requires { ⌜ Sized m (length (now «data»)) (length (now out)) × ((first ≤ end) × (end ≤ totalOf m)) ⌝ }
+    ensures { λ r. ⌜ (r ≡ badIn (now («data» .entry)) m first (end - first)) × (now (out .exit) ≡ paintedBlocks (now («data» .entry)) m first end (now (out .entry))) ⌝ }
+{
+    let rev = bits::reversal();
+    let t = sequence::trits();
+    let q = sequence::quints();
+    let mut bad = 0;
+    let mut b = first;
+    while b < end {
+        bad += paint_block(&rev, &t, &q, data, m, b, out);
+        b += 1;
+    }
+    bad
+}
+
+fn refused(c: Cursor, answer: usize) -> Step
+    ensures { λ r. ⌜ r ≡ refusedAt c answer ⌝ }
+{
+    Step {
+        answer,
+        cursor: c,
+        painted: 0,
+        bad: 0,
+    }
+}
+
+// An accepted step of n blocks.
+fn moved(c: Cursor, n: usize, bad: usize) -> Step
+    requires { ⌜ c .next + n < 2 ^ 64 ⌝ }
+    ensures { λ r. ⌜ r ≡ movedBy c n bad ⌝ }
+{
+    Step {
+        answer: 0,
+        cursor: Cursor {
+            width: c.width,
+            height: c.height,
+            bw: c.bw,
+            bh: c.bh,
+            next: c.next + n,
+        },
+        painted: n,
+        bad,
+    }
+}
+
+// Paints the image of its blocks' bytes and gives the answer; a refusal leaves the output as it was.
+pub fn decode_astc(
+    data: &[u8],
+    width: usize,
+    height: usize,
+    bw: usize,
+    bh: usize,
+    out: &mut [u32],
+) -> usize
+    ensures { λ a. ⌜ (a ≡ refusalOf (shape width height bw bh) (length (now («data» .entry))) (length (now (out .entry)))) × (now (out .exit) ≡ imageOf (now («data» .entry)) (shape width height bw bh) (now (out .entry))) ⌝ }
+{
+    let m = Shape {
+        width,
+        height,
+        bw,
+        bh,
+    };
+    let a = refusal(m, data.len(), out.len());
+    if a != 0 {
+        return a;
+    }
+    let end = total(m);
+    paint_blocks(data, m, 0, end, out);
+    0
+}
+
+impl Cursor {
+    // Paints the next blocks, as many as are asked for or are left. A refused step hands the cursor back as given.
+    pub fn step(self, data: &[u8], blocks: usize, out: &mut [u32]) -> Step
+        ensures { λ r. ⌜ (r ≡ stepOf (now («data» .entry)) self blocks (length (now (out .entry)))) × (now (out .exit) ≡ stepped (now («data» .entry)) self blocks (now (out .entry))) ⌝ }
+    {
+        let m = Shape {
+            width: self.width,
+            height: self.height,
+            bw: self.bw,
+            bh: self.bh,
+        };
+        let a = refusal(m, data.len(), out.len());
+        if a != 0 {
+            return refused(self, a);
+        }
+        if blocks == 0 {
+            return refused(self, 33);
+        }
+        let end = total(m);
+        let next = self.next;
+        if end < next {
+            return refused(self, 34);
+        }
+        let n = smaller(blocks, end - next);
+        let bad = paint_blocks(data, m, next, next + n, out);
+        moved(self, n, bad)
+    }
+}
