@@ -1,5 +1,5 @@
 -- Each way out is a law of SurfaceLaws; the map's numbers are small.
-use Rattle.block.specs.MapLaws.{Small, map-small}
+use Rattle.block.specs.MapLaws.{map-small}
 use Rattle.astc.specs.SurfaceLaws.{refused, no-room, written}
 use Prim.Native.Nat.{_<_}
 use native.Mathlib.Omega.{arith}
