@@ -1,4 +1,6 @@
-//! The two functions of the archive, over slices.
+//! The four functions of the archive, over slices.
+
+use model::Shape;
 
 extern "C" {
     fn astc_decode_block(
@@ -17,6 +19,32 @@ extern "C" {
         bh: usize,
         map: *mut u32,
         map_len: usize,
+    ) -> u32;
+
+    fn astc_decode_image(
+        data: *const u8,
+        data_len: usize,
+        width: usize,
+        height: usize,
+        bw: usize,
+        bh: usize,
+        out: *mut u32,
+        out_len: usize,
+    ) -> u32;
+
+    fn astc_image_step(
+        data: *const u8,
+        data_len: usize,
+        width: usize,
+        height: usize,
+        bw: usize,
+        bh: usize,
+        next: usize,
+        blocks: usize,
+        out: *mut u32,
+        out_len: usize,
+        moved: *mut u64,
+        moved_len: usize,
     ) -> u32;
 }
 
@@ -46,6 +74,51 @@ pub fn block_map(block: &[u8], bw: usize, bh: usize, map: &mut [u32]) -> u32 {
             bh,
             map.as_mut_ptr(),
             map.len(),
+        )
+    }
+}
+
+/// Paints an image; the answer.
+pub fn decode_image(data: &[u8], shape: Shape, out: &mut [u32]) -> u32 {
+    // SAFETY: both parts are as long as they are said to be, and only `out` is written.
+    unsafe {
+        astc_decode_image(
+            data.as_ptr(),
+            data.len(),
+            shape.width,
+            shape.height,
+            shape.bw,
+            shape.bh,
+            out.as_mut_ptr(),
+            out.len(),
+        )
+    }
+}
+
+/// Paints at most so many blocks of an image from block `next` on, and writes where that leads and what was painted; the answer.
+pub fn image_step(
+    data: &[u8],
+    shape: Shape,
+    next: usize,
+    blocks: usize,
+    out: &mut [u32],
+    moved: &mut [u64],
+) -> u32 {
+    // SAFETY: the three parts are as long as they are said to be and lie apart, and only `out` and `moved` are written.
+    unsafe {
+        astc_image_step(
+            data.as_ptr(),
+            data.len(),
+            shape.width,
+            shape.height,
+            shape.bw,
+            shape.bh,
+            next,
+            blocks,
+            out.as_mut_ptr(),
+            out.len(),
+            moved.as_mut_ptr(),
+            moved.len(),
         )
     }
 }

@@ -3,7 +3,7 @@
 
 use crate::archive;
 use crate::run::{run, Options, Sample, Tally};
-use model::{bits, Layout, FOOTPRINTS, TOPS};
+use model::{bits, Layout, FOOTPRINTS, HDR_MODES, TOPS};
 use std::ffi::{c_int, c_uint, c_void};
 use std::ptr::NonNull;
 use std::time::Instant;
@@ -147,7 +147,8 @@ fn judge(judges: &mut [Judge], sample: &Sample, tally: &mut Tally) -> Result<(),
         return Err(format!("we find {ours:?}, astcenc {theirs:?}"));
     }
     tally.count("blocks legal for both, all parameters equal");
-    if ours.modes.iter().any(|m| [2, 3, 7, 11, 14, 15].contains(m)) {
+    let hdr = |mode: &u32| HDR_MODES.contains(&(*mode as usize));
+    if ours.modes.iter().any(hdr) {
         tally.count("legal blocks with HDR modes, words not compared");
         return Ok(());
     }

@@ -1,65 +1,21 @@
 //! The archive against the original and document 01's rules: answers, words, maps, and what must stay.
 
 use crate::archive;
+use crate::marks::{marks, room, same, same_answer, BEFORE, SPARE};
 use crate::run::{run, Options, Sample, Tally};
 use model::random::Random;
-use model::{blocks, map, refusal, FOOTPRINTS, MAGENTA};
-use original::astc::decode_astc_block;
+use model::{blocks, map, refusal, FOOTPRINTS};
 use std::array;
-use std::panic::{catch_unwind, AssertUnwindSafe};
 use std::time::Instant;
 
-/// The words before an output, which must stay.
-const BEFORE: usize = 8;
-/// The most words that an output has beyond those to be written.
-const SPARE: usize = 32;
 /// The words of the largest block or of a map, with those before, and behind the largest output.
 const WORDS: usize = BEFORE + 144 + SPARE + 8;
 const NUMBERS: usize = BEFORE + 9 + SPARE + 8;
 
-/// Words to know unwritten ones by: no two alike, and others each time.
-fn marks<const N: usize>(random: &mut Random) -> [u32; N] {
-    let salt = random.number() as u32;
-    array::from_fn(|i| (i as u32).wrapping_mul(0x9e37_79b9).wrapping_add(salt))
-}
-
-/// The room of an output for `wanted` words: exactly that, or more.
-fn room(wanted: usize, random: &mut Random) -> usize {
-    wanted + random.below(2) * random.below(SPARE + 1)
-}
-
-/// The first word that is not as expected; words are numbered from the start of the output.
-fn same(what: &str, ours: &[u32], expected: &[u32]) -> Result<(), String> {
-    if ours == expected {
-        return Ok(());
-    }
-    let place = ours.iter().zip(expected).position(|(a, b)| a != b).unwrap();
-    Err(format!(
-        "{what} {}: ours {:08x}, expected {:08x}",
-        place as isize - BEFORE as isize,
-        ours[place],
-        expected[place]
-    ))
-}
-
-fn same_answer(what: &str, ours: u32, expected: u32) -> Result<(), String> {
-    if ours == expected {
-        return Ok(());
-    }
-    Err(format!("{what}: ours {ours}, expected {expected}"))
-}
-
 /// The output by the original, or magenta where it is no judge, among the marks.
 fn expected_words(sample: &Sample, marks: &[u32; WORDS]) -> Result<[u32; WORDS], String> {
     let mut all = *marks;
-    let words = &mut all[BEFORE..BEFORE + sample.texels()];
-    match sample.answer {
-        0 | 1 | 10 => catch_unwind(AssertUnwindSafe(|| {
-            decode_astc_block(&sample.block, sample.bw, sample.bh, words)
-        }))
-        .map_err(|_| format!("the original panics at a block of answer {}", sample.answer))?,
-        _ => words.fill(MAGENTA),
-    }
+    sample.paint(&mut all[BEFORE..BEFORE + sample.texels()])?;
     Ok(all)
 }
 
@@ -96,13 +52,13 @@ fn fields_apart(map: &[u32]) -> bool {
 /// One block: its words and what lies around them, its map, and for a legal block that no unmapped bit matters.
 fn judge(sample: &Sample, random: &mut Random, tally: &mut Tally) -> Result<(), String> {
     let answer = u32::from(sample.answer);
-    let word_marks = marks(random);
+    let word_marks = array::from_fn(marks(random));
     let word_room = room(sample.texels(), random);
     let (ours, words) = our_words(sample, &sample.block, &word_marks, word_room);
     same_answer("answer", ours, answer)?;
     same("word", &words, &expected_words(sample, &word_marks)?)?;
 
-    let map_marks = marks(random);
+    let map_marks = array::from_fn(marks(random));
     let map_room = room(9, random);
     let (ours, numbers) = our_map(sample, &sample.block, &map_marks, map_room);
     same_answer("answer of the map", ours, answer)?;
@@ -176,7 +132,7 @@ fn compare_refusals(random: &mut Random, tally: &mut Tally) {
                 let Some(answer) = refusal(len, bw, bh, room, texels) else {
                     continue;
                 };
-                let marks = marks::<WORDS>(random);
+                let marks: [u32; WORDS] = array::from_fn(marks(random));
                 let mut all = marks;
                 let out = &mut all[BEFORE..BEFORE + room];
                 let ours = archive::decode_block(block, bw, bh, out);
@@ -193,7 +149,7 @@ fn compare_refusals(random: &mut Random, tally: &mut Tally) {
                 let Some(answer) = refusal(len, bw, bh, room, 9) else {
                     continue;
                 };
-                let marks = marks::<NUMBERS>(random);
+                let marks: [u32; NUMBERS] = array::from_fn(marks(random));
                 let mut all = marks;
                 let out = &mut all[BEFORE..BEFORE + room];
                 let ours = archive::block_map(block, bw, bh, out);
@@ -264,7 +220,7 @@ mod tests {
     #[test]
     fn a_panic_of_the_original_is_a_difference() {
         let random = &mut Random::new(1);
-        let marks = marks(random);
+        let marks = array::from_fn(marks(random));
         let panics = (0..10_000)
             .map(|_| random.block())
             .filter(|block| answer(block, 4, 4) > 10)

@@ -1,26 +1,31 @@
-//! Holds the archive of the C surface to outside judges, block by block.
+//! Holds the archive of the C surface to outside judges, block by block and image by image.
 //!
 //! `differential blocks` compares answers, words and maps with the original and with document 01's rules; `differential astcenc`
-//! compares legality, parameters and LDR words with Arm's astcenc, where its library is installed. Both take `--seed N`,
-//! `--count N` (of blocks beside those of all first eleven bits) and `--threads N`, print what they compared, and end with status
-//! 1 at a difference.
+//! compares legality, parameters and LDR words with Arm's astcenc, where its library is installed; `differential images` compares
+//! whole images, images in steps and refusals with the original and with document 01's rules. They take `--seed N` and `--count N`
+//! (of blocks beside those of all first eleven bits, or of images), those over blocks also `--threads N`; they print what they
+//! compared, and end with status 1 at a difference. `differential speed` times the archive and the original on the same images.
 
 mod archive;
 #[cfg(astcenc)]
 mod astcenc;
 mod blocks;
+mod images;
+mod marks;
 mod run;
+mod speed;
 
 use run::Options;
 use std::process::ExitCode;
 
-const USAGE: &str =
-    "usage: differential blocks|astcenc [--seed N] [--count N] [--threads N]; N is a number, of threads at least 1";
+const USAGE: &str = "usage: differential blocks|astcenc [--seed N] [--count N] [--threads N], or differential images [--seed N] \
+[--count N], or differential speed; N is a number, of threads at least 1";
 
-fn options(words: &[String]) -> Option<Options> {
+/// The options of a command over blocks, or of the one over images, which has one thread.
+fn options(words: &[String], images: bool) -> Option<Options> {
     let mut options = Options {
         seed: 1,
-        count: 1_000_000,
+        count: if images { 2_000 } else { 1_000_000 },
         threads: std::thread::available_parallelism().map_or(1, |n| n.get() as u64),
     };
     for pair in words.chunks(2) {
@@ -28,7 +33,7 @@ fn options(words: &[String]) -> Option<Options> {
         match pair[0].as_str() {
             "--seed" => options.seed = number,
             "--count" => options.count = number,
-            "--threads" if number > 0 => options.threads = number,
+            "--threads" if number > 0 && !images => options.threads = number,
             _ => return None,
         }
     }
@@ -45,24 +50,26 @@ fn compare_with_astcenc(_: &Options) -> bool {
     true
 }
 
-fn usage() -> ExitCode {
-    eprintln!("differential: {USAGE}");
-    ExitCode::from(2)
+/// Does what the words ask for; whether there was no difference, or nothing if they ask for nothing known.
+fn obey(words: &[String]) -> Option<bool> {
+    let (command, rest) = words.split_first()?;
+    Some(match command.as_str() {
+        "blocks" => blocks::compare(&options(rest, false)?),
+        "astcenc" => compare_with_astcenc(&options(rest, false)?),
+        "images" => images::compare(&options(rest, true)?),
+        "speed" if rest.is_empty() => speed::measure(),
+        _ => return None,
+    })
 }
 
 fn main() -> ExitCode {
     let words: Vec<String> = std::env::args().skip(1).collect();
-    let compare = match words.first().map(String::as_str) {
-        Some("blocks") => blocks::compare,
-        Some("astcenc") => compare_with_astcenc,
-        _ => return usage(),
-    };
-    let Some(options) = options(&words[1..]) else {
-        return usage();
-    };
-    if compare(&options) {
-        ExitCode::SUCCESS
-    } else {
-        ExitCode::from(1)
+    match obey(&words) {
+        Some(true) => ExitCode::SUCCESS,
+        Some(false) => ExitCode::from(1),
+        None => {
+            eprintln!("differential: {USAGE}");
+            ExitCode::from(2)
+        }
     }
 }

@@ -3,15 +3,17 @@
 
 use model::blocks::{self, Kind, Legal};
 use model::random::Random;
-use model::{answer, ANSWERS, FOOTPRINTS};
+use model::{answer, ANSWERS, FOOTPRINTS, MAGENTA};
+use original::astc::decode_astc_block;
 use std::collections::BTreeMap;
+use std::panic::{catch_unwind, AssertUnwindSafe};
 use std::sync::atomic::{AtomicU64, Ordering};
 use std::thread;
 use std::time::Instant;
 
 pub struct Options {
     pub seed: u64,
-    /// How many blocks are made beside those of all first eleven bits at every footprint.
+    /// How many blocks are made beside those of all first eleven bits at every footprint, or how many images.
     pub count: u64,
     pub threads: u64,
 }
@@ -31,7 +33,7 @@ pub struct Sample {
 }
 
 impl Sample {
-    fn new(block: [u8; 16], (bw, bh): (usize, usize)) -> Self {
+    pub fn new(block: [u8; 16], (bw, bh): (usize, usize)) -> Self {
         let answer = answer(&block, bw, bh);
         Sample {
             block,
@@ -43,6 +45,23 @@ impl Sample {
 
     pub fn texels(&self) -> usize {
         self.bw * self.bh
+    }
+
+    /// Whether the original is the judge of what is painted.
+    pub fn judged(&self) -> bool {
+        [0, 1, 10].contains(&self.answer)
+    }
+
+    /// Paints the block's words by the original, or magenta where it is no judge.
+    pub fn paint(&self, words: &mut [u32]) -> Result<(), String> {
+        if !self.judged() {
+            words.fill(MAGENTA);
+            return Ok(());
+        }
+        catch_unwind(AssertUnwindSafe(|| {
+            decode_astc_block(&self.block, self.bw, self.bh, words)
+        }))
+        .map_err(|_| format!("the original panics at a block of answer {}", self.answer))
     }
 }
 
@@ -64,7 +83,12 @@ pub struct Tally {
 impl Tally {
     /// Counts something beside the blocks themselves.
     pub fn count(&mut self, what: &'static str) {
-        *self.others.entry(what).or_default() += 1;
+        self.add(what, 1);
+    }
+
+    /// Counts so many things at once.
+    pub fn add(&mut self, what: &'static str, many: usize) {
+        *self.others.entry(what).or_default() += many as u64;
     }
 
     /// Counts a difference, and shows it if it is one of the first.
@@ -107,7 +131,7 @@ impl Tally {
         self
     }
 
-    /// Prints the counts; whether there was no difference.
+    /// Prints the counts of a run over blocks; whether there was no difference.
     pub fn end(&self, start: Instant) -> bool {
         for (kind, count) in &self.kinds {
             println!("blocks, {kind}: {count}");
@@ -117,12 +141,17 @@ impl Tally {
             assert!(count > 0, "no block with answer {answer} was compared");
             println!("blocks of answer {answer}: {count}");
         }
+        let blocks = self.kinds.values().sum::<u64>();
+        self.close(&format!("{blocks} blocks"), start)
+    }
+
+    /// Prints what was counted beside blocks, and last what it was all about; whether there was no difference.
+    pub fn close(&self, all: &str, start: Instant) -> bool {
         for (what, count) in &self.others {
             println!("{what}: {count}");
         }
         println!(
-            "{} blocks, {} differences, {:.1} s",
-            self.kinds.values().sum::<u64>(),
+            "{all}, {} differences, {:.1} s",
             self.differences,
             start.elapsed().as_secs_f64()
         );

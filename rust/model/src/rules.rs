@@ -23,6 +23,9 @@ pub const ANSWERS: [u8; 9] = [0, 1, 10, 11, 12, 13, 14, 15, 16];
 /// The word of a reserved or refused block.
 pub const MAGENTA: u32 = 0xffff_00ff;
 
+/// The endpoint modes with HDR colour.
+pub const HDR_MODES: [usize; 6] = [2, 3, 7, 11, 14, 15];
+
 /// The largest value of each range, the narrowest first. Weights have the first twelve.
 pub const TOPS: [usize; 21] = [
     1, 2, 3, 4, 5, 7, 9, 11, 15, 19, 23, 31, 39, 47, 63, 79, 95, 127, 159, 191, 255,

@@ -1,0 +1,528 @@
+//! Whole images and images in steps: the archive against images that the original paints, block by block and whole, and against
+//! document 01's rules on sizes and cursors.
+
+use crate::archive;
+use crate::marks::{marks, room, same, same_answer, BEFORE, SPARE};
+use crate::run::{Options, Sample, Tally};
+use model::blocks::{Kind, Legal};
+use model::random::Random;
+use model::{Shape, FOOTPRINTS};
+use original::astc::decode_astc;
+use std::array;
+use std::ops::Range;
+use std::panic::{catch_unwind, AssertUnwindSafe};
+use std::time::Instant;
+
+/// The numbers that a step writes.
+const MOVED: usize = 3;
+/// The places for them, with those before and behind, which must stay.
+const PLACES: usize = BEFORE + MOVED + 8;
+
+/// An image that is to be painted, and what it must become.
+struct Image {
+    shape: Shape,
+    data: Vec<u8>,
+    /// The answers of its blocks.
+    answers: Vec<u8>,
+    /// Whether the original judges all of its blocks.
+    judged: bool,
+    pixels: Vec<u32>,
+}
+
+impl Image {
+    /// An image of blocks of all kinds, or only of those that the original judges, composed block by block.
+    fn new(shape: Shape, judged: bool, legal: &Legal, random: &mut Random) -> Result<Self, String> {
+        let footprint = (shape.bw, shape.bh);
+        let mut image = Image {
+            shape,
+            data: Vec::with_capacity(16 * shape.blocks()),
+            answers: Vec::with_capacity(shape.blocks()),
+            judged: true,
+            pixels: vec![0; shape.pixels()],
+        };
+        for block in 0..shape.blocks() {
+            let sample = loop {
+                let kind = Kind::of(random.number());
+                let sample = Sample::new(kind.block(random, footprint, legal), footprint);
+                if sample.judged() || !judged {
+                    break sample;
+                }
+            };
+            image.data.extend(sample.block);
+            image.answers.push(sample.answer);
+            image.judged &= sample.judged();
+            let mut texels = [0; 144];
+            sample.paint(&mut texels[..sample.texels()])?;
+            for (row, texels) in shape.rows(block).zip(texels.chunks(shape.bw)) {
+                let wide = row.len();
+                image.pixels[row].copy_from_slice(&texels[..wide]);
+            }
+        }
+        Ok(image)
+    }
+
+    /// How many of these blocks answer 10 to 16.
+    fn bad(&self, blocks: Range<usize>) -> usize {
+        let answers = &self.answers[blocks];
+        answers.iter().filter(|&&answer| answer >= 10).count()
+    }
+
+    /// Paints these blocks as they must become.
+    fn paint(&self, blocks: Range<usize>, out: &mut [u32]) {
+        for row in blocks.flat_map(|block| self.shape.rows(block)) {
+            out[row.clone()].copy_from_slice(&self.pixels[row]);
+        }
+    }
+
+    /// The original's own image.
+    fn by_original(&self) -> Result<Vec<u32>, String> {
+        let Shape {
+            width,
+            height,
+            bw,
+            bh,
+        } = self.shape;
+        let mut pixels = vec![0; self.shape.pixels()];
+        catch_unwind(AssertUnwindSafe(|| {
+            decode_astc(&self.data, width, height, bw, bh, &mut pixels)
+        }))
+        .map_err(|_| "the original panics at the image".to_string())?
+        .map_err(|error| format!("the original refuses the image: {error}"))?;
+        Ok(pixels)
+    }
+}
+
+/// An output among words that must stay, and what all of them must be.
+struct Canvas {
+    all: Vec<u32>,
+    expected: Vec<u32>,
+    out: Range<usize>,
+}
+
+impl Canvas {
+    fn new(room: usize, random: &mut Random) -> Self {
+        let all: Vec<u32> = (0..BEFORE + room + 8).map(marks(random)).collect();
+        Canvas {
+            expected: all.clone(),
+            all,
+            out: BEFORE..BEFORE + room,
+        }
+    }
+
+    fn out(&mut self) -> &mut [u32] {
+        &mut self.all[self.out.clone()]
+    }
+
+    fn expected(&mut self) -> &mut [u32] {
+        &mut self.expected[self.out.clone()]
+    }
+
+    fn compare(&self, tally: &mut Tally) -> Result<(), String> {
+        tally.add("words compared", self.all.len());
+        same("word", &self.all, &self.expected)
+    }
+}
+
+/// The numbers of a step among places that must stay, before it.
+fn places(random: &mut Random) -> [u64; PLACES] {
+    let mark = marks(random);
+    array::from_fn(|i| u64::from(mark(i)) << 32 | u64::from(mark(i + PLACES)))
+}
+
+/// Holds the numbers of a step to those that are expected, and the places around them to what they were.
+fn same_numbers(
+    ours: &[u64; PLACES],
+    before: &[u64; PLACES],
+    expected: Option<[usize; MOVED]>,
+) -> Result<(), String> {
+    let mut all = *before;
+    if let Some(numbers) = expected {
+        all[BEFORE..BEFORE + MOVED].copy_from_slice(&numbers.map(|n| n as u64));
+    }
+    if *ours == all {
+        return Ok(());
+    }
+    let numbers = &ours[BEFORE..BEFORE + MOVED];
+    Err(match expected {
+        Some(expected) if expected.map(|n| n as u64) != numbers => {
+            format!("numbers of the step: ours {numbers:?}, expected {expected:?}")
+        }
+        Some(_) => "places around the numbers of the step were written".into(),
+        None => "places for the numbers of the step were written".into(),
+    })
+}
+
+/// The image painted at once, and the original's whole image where it judges all blocks.
+fn judge_whole(image: &Image, random: &mut Random, tally: &mut Tally) -> Result<(), String> {
+    let mut canvas = Canvas::new(room(image.pixels.len(), random), random);
+    let answer = archive::decode_image(&image.data, image.shape, canvas.out());
+    same_answer("answer", answer, 0)?;
+    image.paint(0..image.answers.len(), canvas.expected());
+    canvas.compare(tally)?;
+    tally.count("images painted at once");
+    if image.judged {
+        let wide = image.pixels.len();
+        canvas.expected()[..wide].copy_from_slice(&image.by_original()?);
+        canvas
+            .compare(tally)
+            .map_err(|difference| format!("by the original's whole image, {difference}"))?;
+        tally.count("images compared with the original's whole image too");
+    }
+    Ok(())
+}
+
+/// One step from block `next` on an output that is as expected so far; the next block.
+fn judge_step(
+    image: &Image,
+    canvas: &mut Canvas,
+    next: usize,
+    blocks: usize,
+    random: &mut Random,
+    tally: &mut Tally,
+) -> Result<usize, String> {
+    let painted = blocks.min(image.answers.len() - next);
+    let end = next + painted;
+    let before = places(random);
+    let mut moved = before;
+    let numbers = &mut moved[BEFORE..BEFORE + MOVED + random.below(3)];
+    let answer = archive::image_step(
+        &image.data,
+        image.shape,
+        next,
+        blocks,
+        canvas.out(),
+        numbers,
+    );
+    image.paint(next..end, canvas.expected());
+    same_answer("answer", answer, 0)
+        .and_then(|()| {
+            let numbers = [end, painted, image.bad(next..end)];
+            same_numbers(&moved, &before, Some(numbers))
+        })
+        .and_then(|()| canvas.compare(tally))
+        .map_err(|difference| format!("step of {blocks} blocks from {next}: {difference}"))?;
+    tally.count(if painted > 0 {
+        "steps"
+    } else {
+        "steps of a finished cursor"
+    });
+    Ok(end)
+}
+
+/// The sizes of an image's steps.
+#[derive(Clone, Copy)]
+enum Pace {
+    Even(usize),
+    Random,
+    Any,
+}
+
+impl Pace {
+    const ALL: [Pace; 8] = [
+        Pace::Even(1),
+        Pace::Even(2),
+        Pace::Even(3),
+        Pace::Even(7),
+        // more than there are, and nothing to a narrower number
+        Pace::Even(1 << (usize::BITS / 2)),
+        Pace::Even(usize::MAX),
+        Pace::Random,
+        Pace::Any,
+    ];
+
+    fn step(self, total: usize, random: &mut Random) -> usize {
+        match self {
+            Pace::Even(blocks) => blocks,
+            Pace::Random => 1 + random.below(total),
+            Pace::Any => Pace::ALL[random.below(Pace::ALL.len() - 1)].step(total, random),
+        }
+    }
+}
+
+/// The image painted in steps from its first block, and then on a fresh output a step from any block.
+fn judge_steps(image: &Image, random: &mut Random, tally: &mut Tally) -> Result<(), String> {
+    let total = image.answers.len();
+    // each step is compared whole, so that large images have few steps
+    let least = if total > 10_000 { total / 8 } else { 1 };
+    let pace = Pace::ALL[random.below(Pace::ALL.len())];
+    let mut canvas = Canvas::new(room(image.pixels.len(), random), random);
+    let mut next = 0;
+    while next < total {
+        let blocks = pace.step(total, random).max(least);
+        next = judge_step(image, &mut canvas, next, blocks, random, tally)?;
+    }
+    let blocks = pace.step(total, random);
+    judge_step(image, &mut canvas, next, blocks, random, tally)?;
+
+    let mut canvas = Canvas::new(room(image.pixels.len(), random), random);
+    let next = random.below(total + 1);
+    let blocks = Pace::Any.step(total, random);
+    judge_step(image, &mut canvas, next, blocks, random, tally)?;
+    Ok(())
+}
+
+/// Sizes that each footprint has: the least and the longest, whole blocks, one less and one more, and edges of all kinds.
+fn sizes(bw: usize, bh: usize) -> Vec<(usize, usize)> {
+    vec![
+        (1, 1),
+        (1, 4096),
+        (4096, 1),
+        (4096, bh + 1),
+        (bw + 1, 4096),
+        (4095, 3),
+        (bw, bh),
+        (bw - 1, bh),
+        (bw, bh - 1),
+        (bw + 1, bh),
+        (bw, bh + 1),
+        (3 * bw, 2 * bh),
+        (3 * bw - 1, 2 * bh - 1),
+        (3 * bw + 1, 2 * bh + 1),
+        (6 * bw - 1, 5 * bh + 1),
+        (6 * bw + 1, 5 * bh - 1),
+        (13, 7),
+        (31, 17),
+        (100, 3),
+        (3, 100),
+    ]
+}
+
+/// The shape of the image of this number, and whether it has only blocks that the original judges: each size at each footprint both
+/// ways, then random sizes.
+fn shape(number: usize, random: &mut Random) -> (Shape, bool) {
+    let (round, place) = (number / FOOTPRINTS.len(), number % FOOTPRINTS.len());
+    let (bw, bh) = FOOTPRINTS[place];
+    let (width, height) = match sizes(bw, bh).get(round / 2) {
+        Some(&size) => size,
+        None => (1 + random.below(80), 1 + random.below(80)),
+    };
+    let shape = Shape {
+        width,
+        height,
+        bw,
+        bh,
+    };
+    (shape, round % 2 == 0)
+}
+
+/// Holds an image to what it must become, at once and in steps.
+fn compare_image(
+    what: &str,
+    shape: Shape,
+    judged: bool,
+    legal: &[Legal],
+    random: &mut Random,
+    tally: &mut Tally,
+) {
+    let place = FOOTPRINTS.iter().position(|&f| f == (shape.bw, shape.bh));
+    let legal = &legal[place.expect("an image's footprint is listed")];
+    let outcome = Image::new(shape, judged, legal, random).and_then(|image| {
+        let (total, bad) = (image.answers.len(), image.bad(0..image.answers.len()));
+        tally.add("blocks of images", total);
+        tally.add("bad blocks of images", bad);
+        judge_whole(&image, random, tally)?;
+        judge_steps(&image, random, tally)
+    });
+    if let Err(difference) = outcome {
+        let Shape {
+            width,
+            height,
+            bw,
+            bh,
+        } = shape;
+        tally.differ(&format!(
+            "{what}, {width}x{height} pixels at {bw}x{bh}: {difference}"
+        ));
+    }
+}
+
+/// Shapes of which the given one is right, and in most of the others a size or several are wrong: sides and footprints of nothing,
+/// the largest numbers, unlisted or too long ones, and right ones with a high bit set, which a narrower number would take for them.
+fn shapes(right: Shape) -> Vec<Shape> {
+    let Shape {
+        width,
+        height,
+        bw,
+        bh,
+    } = right;
+    let half = 1 << (usize::BITS / 2);
+    let top = 1 << (usize::BITS - 1);
+    let max = usize::MAX;
+    let footprints = [
+        (bw, bh),
+        (0, bh),
+        (bw, 0),
+        (bh, bw),
+        (4, 5),
+        (13, 13),
+        (bw + 1, bh),
+        (bw | 1 << 8, bh),
+        (bw, bh | half),
+        (bw | top, bh | top),
+        (max, max),
+    ];
+    let sides = [
+        (width, height),
+        (0, height),
+        (width, 0),
+        (4096, height),
+        (4097, height),
+        (width, 4097),
+        (0, 4097),
+        (width | 1 << 16, height),
+        (width, height | half),
+        (top, 2),
+        (max, height),
+        (width, max),
+        (max, max),
+    ];
+    footprints
+        .iter()
+        .flat_map(|&(bw, bh)| {
+            sides.map(|(width, height)| Shape {
+                width,
+                height,
+                bw,
+                bh,
+            })
+        })
+        .collect()
+}
+
+/// The sizes of calls that are refused.
+struct Refused<'a> {
+    seed: u64,
+    data: &'a [u8],
+    shape: Shape,
+    room: usize,
+}
+
+impl Refused<'_> {
+    /// An image: its answer, and an output that stays.
+    fn image(&self, random: &mut Random, tally: &mut Tally) {
+        let Some(answer) = self.shape.refusal(self.data.len(), self.room) else {
+            return;
+        };
+        let mut canvas = Canvas::new(self.room, random);
+        let ours = archive::decode_image(self.data, self.shape, canvas.out());
+        let outcome = same_answer("answer", ours, answer).and_then(|()| canvas.compare(tally));
+        self.end(answer, outcome, tally);
+    }
+
+    /// A step with so many places for its numbers: its answer, an output that stays, and where the places are enough the next block
+    /// as given and two zeros.
+    fn step(
+        &self,
+        next: usize,
+        blocks: usize,
+        wide: usize,
+        random: &mut Random,
+        tally: &mut Tally,
+    ) {
+        let (data, shape) = (self.data, self.shape);
+        let Some(answer) = shape.step_refusal(data.len(), self.room, wide, next, blocks) else {
+            return;
+        };
+        let mut canvas = Canvas::new(self.room, random);
+        let before = places(random);
+        let mut moved = before;
+        let numbers = &mut moved[BEFORE..BEFORE + wide];
+        let ours = archive::image_step(data, shape, next, blocks, canvas.out(), numbers);
+        let expected = (wide >= MOVED).then_some([next, 0, 0]);
+        let outcome = same_answer("answer", ours, answer)
+            .and_then(|()| same_numbers(&moved, &before, expected))
+            .and_then(|()| canvas.compare(tally))
+            .map_err(|difference| {
+                format!("step of {blocks} blocks from {next} with {wide} places: {difference}")
+            });
+        self.end(answer, outcome, tally);
+    }
+
+    /// Counts the refusal, and says where it differs, if it does.
+    fn end(&self, answer: u32, outcome: Result<(), String>, tally: &mut Tally) {
+        tally.count(match answer {
+            21 => "calls refused by 21",
+            22 => "calls refused by 22",
+            30 => "calls refused by 30",
+            31 => "calls refused by 31",
+            33 => "calls refused by 33",
+            _ => "calls refused by 34",
+        });
+        if let Err(difference) = outcome {
+            tally.differ(&format!(
+                "call of seed {}, {:?} with {} bytes and room for {}: {difference}",
+                self.seed,
+                self.shape,
+                self.data.len(),
+                self.room
+            ));
+        }
+    }
+}
+
+/// Images and steps that their sizes refuse, one or several sizes wrong. Each block of the data would be legal.
+fn compare_refusals(seed: u64, legal: &[Legal], tally: &mut Tally) {
+    let random = &mut Random::new(seed);
+    let half = 1 << (usize::BITS / 2);
+    for (&(bw, bh), legal) in FOOTPRINTS.iter().zip(legal) {
+        let right = Shape {
+            width: bw + 1,
+            height: 2 * bh - 1,
+            bw,
+            bh,
+        };
+        let (total, pixels) = (right.blocks(), right.pixels());
+        let size = 16 * total;
+        let data: Vec<u8> = (0..=total)
+            .flat_map(|_| legal.pick(random).fill(random))
+            .collect();
+        for shape in shapes(right) {
+            for len in [0, size - 16, size - 1, size, size + 1, size + 16] {
+                for room in [0, pixels - 1, pixels, pixels + SPARE] {
+                    let call = Refused {
+                        seed,
+                        data: &data[..len],
+                        shape,
+                        room,
+                    };
+                    call.image(random, tally);
+                    for next in [0, total, total + 1, total | half, usize::MAX] {
+                        for blocks in [0, 1, usize::MAX] {
+                            for wide in 0..MOVED + 2 {
+                                call.step(next, blocks, wide, random, tally);
+                            }
+                        }
+                    }
+                }
+            }
+        }
+    }
+}
+
+/// The whole comparison; whether there was no difference.
+pub fn compare(options: &Options) -> bool {
+    let (seed, count) = (options.seed, options.count);
+    println!("the archive's images against the original, seed {seed}, count {count}");
+    let start = Instant::now();
+    let legal = FOOTPRINTS.map(|(bw, bh)| Legal::at(bw, bh));
+    let mut tally = Tally::default();
+    compare_refusals(seed, &legal, &mut tally);
+    for number in 0..count {
+        let random = &mut Random::part(seed, number);
+        let (shape, judged) = shape(number as usize, random);
+        let what = format!("image {number} of seed {seed}");
+        compare_image(&what, shape, judged, &legal, random, &mut tally);
+    }
+    for (bw, bh) in [FOOTPRINTS[0], FOOTPRINTS[13]] {
+        let random = &mut Random::part(!seed, bw as u64);
+        let shape = Shape {
+            width: 4096,
+            height: 4096,
+            bw,
+            bh,
+        };
+        let what = format!("the largest image of seed {seed}");
+        compare_image(&what, shape, false, &legal, random, &mut tally);
+    }
+    tally.close(&format!("{} images", count + 2), start)
+}
