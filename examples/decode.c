@@ -1,0 +1,54 @@
+/* Decodes a block, and an image of three blocks in steps of two: the use of the C surface in full. */
+#include "astc.h"
+#include <stdio.h>
+
+/* A legal block, a void one in one colour, and one of a reserved mode. */
+static const uint8_t DATA[48] = {
+    0x42, 0x00, 0x00, 0xfe, 0x01, 0x00, 0x00, 0x00, 0x00, 0x00, 0x00, 0x00, 0x00, 0x00, 0x00, 0xe0,
+    0xfc, 0xfd, 0xff, 0xff, 0xff, 0xff, 0xff, 0xff, 0x00, 0x00, 0x00, 0x80, 0x00, 0x40, 0xff, 0xff,
+};
+
+static void print_word(uint32_t word) {
+    printf(" (%u %u %u %u)", (unsigned)(word >> 16 & 255), (unsigned)(word >> 8 & 255), (unsigned)(word & 255), (unsigned)(word >> 24));
+}
+
+static void show_block(void) {
+    uint32_t words[16];
+    uint32_t map[9];
+    uint32_t answer = astc_decode_block(DATA, 16, 4, 4, words, 16);
+    printf("block: answer %u, first texels", (unsigned)answer);
+    print_word(words[0]);
+    print_word(words[1]);
+    printf("\n");
+    answer = astc_block_map(DATA, 16, 4, 4, map, 9);
+    printf("map: answer %u, largest endpoint value %u, fields", (unsigned)answer, (unsigned)map[0]);
+    for (int i = 1; i < 9; i += 2) {
+        printf(" %u+%u", (unsigned)map[i], (unsigned)map[i + 1]);
+    }
+    printf("\n");
+}
+
+/* An image of 10x4 pixels: the last block's right half is clipped. */
+static void show_steps(void) {
+    enum { WIDTH = 10, HEIGHT = 4, PIXELS = WIDTH * HEIGHT };
+    uint32_t words[PIXELS];
+    uint64_t moved[3] = {0, 0, 0};
+    do {
+        uint32_t answer = astc_image_step(DATA, sizeof DATA, WIDTH, HEIGHT, 4, 4, (size_t)moved[0], 2, words, PIXELS, moved, 3);
+        printf("step: answer %u, next %u, painted %u, bad %u\n", (unsigned)answer, (unsigned)moved[0], (unsigned)moved[1], (unsigned)moved[2]);
+    } while (moved[1] != 0);
+    printf("first row:");
+    for (int x = 0; x < WIDTH; x++) {
+        print_word(words[x]);
+    }
+    printf("\n");
+}
+
+int main(void) {
+    uint32_t words[40];
+    show_block();
+    show_steps();
+    printf("whole: answer %u\n", (unsigned)astc_decode_image(DATA, sizeof DATA, 10, 4, 4, 4, words, 40));
+    printf("short output: answer %u\n", (unsigned)astc_decode_image(DATA, sizeof DATA, 10, 4, 4, 4, words, 39));
+    return 0;
+}

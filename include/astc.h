@@ -1,0 +1,67 @@
+/* A proved ASTC decoder: blocks and images of 2D ASTC texture data to 32-bit words.
+ *
+ * Every function takes unchecked input, always ends, and answers by number. All that a caller owes is that each pointer has as many
+ * places as the length after it says (a length of 0 needs none), and that an output overlaps nothing else that is passed.
+ *
+ * A word holds blue in its bits 0 to 7, green in 8 to 15, red in 16 to 23 and alpha in 24 to 31. Texels, pixels and blocks are
+ * row-major, from the first row on.
+ *
+ * The footprints are 4x4 5x4 5x5 6x5 6x6 8x5 8x6 8x8 10x5 10x6 10x8 10x10 12x10 12x12, width by height.
+ *
+ * Threads: there is no state, no allocation and no global. Calls may run at once on any threads, as long as their outputs are apart.
+ */
+#ifndef ASTC_H
+#define ASTC_H
+
+#include <stddef.h>
+#include <stdint.h>
+
+#ifdef __cplusplus
+extern "C" {
+#endif
+
+/* The answers, in the order in which they are looked for: a block's 20, 21, 22, then 1, then 10 to 16; an image's 21, 30, 31, 22;
+ * a step's those of the image, then 33 and 34. */
+enum astc_answer {
+    ASTC_LEGAL = 0,                /* a legal block, painted; an image or a step that was accepted */
+    ASTC_VOID_EXTENT = 1,          /* a void-extent block, painted in its one colour */
+    ASTC_RESERVED_MODE = 10,       /* a reserved block mode; this and those to 16 are painted magenta (255, 0, 255, 255) */
+    ASTC_GRID_TOO_LARGE = 11,      /* a grid of weights wider or higher than the footprint */
+    ASTC_TOO_MANY_WEIGHTS = 12,    /* more than 64 weights */
+    ASTC_WEIGHT_BITS = 13,         /* fewer than 24 or more than 96 bits of weights */
+    ASTC_DUAL_PLANE_OF_FOUR = 14,  /* two planes with four partitions */
+    ASTC_TOO_MANY_VALUES = 15,     /* more than 18 endpoint values */
+    ASTC_TOO_LITTLE_ROOM = 16,     /* too few bits for the endpoint values */
+    ASTC_BLOCK_LENGTH = 20,        /* the block is not 16 bytes */
+    ASTC_FOOTPRINT = 21,           /* the footprint is not one of the fourteen */
+    ASTC_OUTPUT_TOO_SHORT = 22,    /* an output has too few places */
+    ASTC_IMAGE_SIDE = 30,          /* a side of the image is 0 or over 4096 */
+    ASTC_DATA_LENGTH = 31,         /* the data is not exactly 16 bytes a block */
+    ASTC_NO_BLOCKS = 33,           /* a step of 0 blocks */
+    ASTC_PAST_THE_END = 34         /* a step from above the number of blocks */
+};
+
+/* Paints the first bw * bh words of out with a block's texels, and gives the block's answer. For 20, 21 and 22 out is as it was;
+ * words after the painted ones never change. */
+uint32_t astc_decode_block(const uint8_t *block, size_t block_len, size_t bw, size_t bh, uint32_t *out, size_t out_len);
+
+/* Writes the map of a block to map, nine numbers, and gives the block's answer: the largest value of the endpoints' range; then start
+ * and length, in bits, of low configuration, endpoints, extra field and weights. All nine are 0 for an answer of 1 or 10 to 16. For
+ * 20, 21 and 22 (fewer than nine places) map is as it was. No bit outside the four fields changes a legal block's words. */
+uint32_t astc_block_map(const uint8_t *block, size_t block_len, size_t bw, size_t bh, uint32_t *map, size_t map_len);
+
+/* Paints the first width * height words of out with an image of ceil(width / bw) * ceil(height / bh) blocks, edge blocks clipped, and
+ * answers 0; blocks that break a rule are magenta. For 21, 30, 31 and 22 out is as it was. */
+uint32_t astc_decode_image(const uint8_t *data, size_t data_len, size_t width, size_t height, size_t bw, size_t bh, uint32_t *out, size_t out_len);
+
+/* Paints at most `blocks` blocks of an image, from block `next` on, and answers 0. Three numbers are written to moved: the next block,
+ * the blocks painted, and how many of them answered 10 to 16. A step from the last block's end is accepted and paints nothing. A
+ * refused step leaves out as it was and writes next as given and two zeros; with fewer than three places in moved it answers 22, after
+ * the image's own refusals and before 33 and 34, and writes nothing. */
+uint32_t astc_image_step(const uint8_t *data, size_t data_len, size_t width, size_t height, size_t bw, size_t bh, size_t next, size_t blocks, uint32_t *out, size_t out_len, uint64_t *moved, size_t moved_len);
+
+#ifdef __cplusplus
+}
+#endif
+
+#endif
