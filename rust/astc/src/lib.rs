@@ -1,0 +1,91 @@
+//! Safe Rust over a proved ASTC decoder.
+//!
+//! Every function takes any slices and sizes, always ends, and answers by an [`Answer`]. A word holds blue in its bits 0
+//! to 7, green in 8 to 15, red in 16 to 23 and alpha in 24 to 31. There is no state, no allocation and no global.
+//!
+//! ```
+//! use astc::{decode_block, Answer, Footprint};
+//! let block = [0x42, 0, 0, 0xfe, 1, 0, 0, 0, 0, 0, 0, 0, 0, 0, 0, 0xe0];
+//! let mut words = [0; 16];
+//! let answer = decode_block(&block, Footprint::new(4, 4).unwrap(), &mut words);
+//! assert_eq!(answer, Answer::Legal);
+//! assert_eq!(words[..3], [0xffff_ffff, 0xff54_5454, 0xff00_0000]);
+//! ```
+#![no_std]
+#![deny(missing_docs)]
+
+#[cfg(feature = "std")]
+extern crate std;
+
+mod answer;
+#[cfg(feature = "std")]
+mod bands;
+mod footprint;
+mod image;
+mod surface;
+
+pub use answer::Answer;
+#[cfg(feature = "std")]
+pub use bands::decode_image_by_threads;
+pub use footprint::Footprint;
+pub use image::{decode_image, Cursor, Step};
+
+/// Where a field of a block stands.
+#[derive(Clone, Copy, Debug, PartialEq, Eq, Hash)]
+pub struct Field {
+    /// Its first bit.
+    pub start: u32,
+    /// How many bits it has.
+    pub length: u32,
+}
+
+/// Where the fields of a legal block stand. No bit outside them changes its words.
+#[derive(Clone, Copy, Debug, PartialEq, Eq, Hash)]
+pub struct Map {
+    /// The largest value of the endpoints' range.
+    pub largest: u32,
+    /// The low configuration.
+    pub low: Field,
+    /// The endpoints.
+    pub endpoints: Field,
+    /// The mode bits and channel bits directly below the weights.
+    pub extra: Field,
+    /// The weights, which end at bit 127.
+    pub weights: Field,
+}
+
+/// Paints the first words of `out` with a block's texels.
+///
+/// [`Answer::BlockLength`] and [`Answer::OutputTooShort`] leave `out` as it was; words after the painted ones never change.
+pub fn decode_block(block: &[u8], footprint: Footprint, out: &mut [u32]) -> Answer {
+    surface::decode_block(block, footprint, out)
+}
+
+/// The map of a legal block, or the answer of any other.
+///
+/// ```
+/// use astc::{block_map, Answer, Field, Footprint};
+/// let block = [0x42, 0, 0, 0xfe, 1, 0, 0, 0, 0, 0, 0, 0, 0, 0, 0, 0xe0];
+/// let map = block_map(&block, Footprint::new(4, 4).unwrap()).unwrap();
+/// assert_eq!(map.largest, 255);
+/// assert_eq!(map.endpoints, Field { start: 17, length: 16 });
+/// assert_eq!(block_map(&[0; 16], Footprint::ALL[0]), Err(Answer::ReservedMode));
+/// ```
+pub fn block_map(block: &[u8], footprint: Footprint) -> Result<Map, Answer> {
+    let mut numbers = [0; 9];
+    let answer = surface::block_map(block, footprint, &mut numbers);
+    if answer != Answer::Legal {
+        return Err(answer);
+    }
+    let field = |i| Field {
+        start: numbers[i],
+        length: numbers[i + 1],
+    };
+    Ok(Map {
+        largest: numbers[0],
+        low: field(1),
+        endpoints: field(3),
+        extra: field(5),
+        weights: field(7),
+    })
+}

@@ -1,0 +1,134 @@
+//! The archive's four functions, over slices. Nothing else in this crate is unsafe.
+
+use crate::{Answer, Footprint};
+
+extern "C" {
+    fn astc_decode_block(
+        block: *const u8,
+        block_len: usize,
+        bw: usize,
+        bh: usize,
+        out: *mut u32,
+        out_len: usize,
+    ) -> u32;
+
+    fn astc_block_map(
+        block: *const u8,
+        block_len: usize,
+        bw: usize,
+        bh: usize,
+        map: *mut u32,
+        map_len: usize,
+    ) -> u32;
+
+    fn astc_decode_image(
+        data: *const u8,
+        data_len: usize,
+        width: usize,
+        height: usize,
+        bw: usize,
+        bh: usize,
+        out: *mut u32,
+        out_len: usize,
+    ) -> u32;
+
+    fn astc_image_step(
+        data: *const u8,
+        data_len: usize,
+        width: usize,
+        height: usize,
+        bw: usize,
+        bh: usize,
+        next: usize,
+        blocks: usize,
+        out: *mut u32,
+        out_len: usize,
+        moved: *mut u64,
+        moved_len: usize,
+    ) -> u32;
+}
+
+/// The archive is proved to answer by these numbers alone.
+fn answer(number: u32) -> Answer {
+    Answer::of(number).expect("the archive gives no other number")
+}
+
+pub fn decode_block(block: &[u8], f: Footprint, out: &mut [u32]) -> Answer {
+    // SAFETY: each pointer has as many places as the length after it says, and only `out` is written.
+    answer(unsafe {
+        astc_decode_block(
+            block.as_ptr(),
+            block.len(),
+            f.width(),
+            f.height(),
+            out.as_mut_ptr(),
+            out.len(),
+        )
+    })
+}
+
+pub fn block_map(block: &[u8], f: Footprint, map: &mut [u32; 9]) -> Answer {
+    // SAFETY: each pointer has as many places as the length after it says, and only `map` is written.
+    answer(unsafe {
+        astc_block_map(
+            block.as_ptr(),
+            block.len(),
+            f.width(),
+            f.height(),
+            map.as_mut_ptr(),
+            map.len(),
+        )
+    })
+}
+
+pub fn decode_image(
+    data: &[u8],
+    width: usize,
+    height: usize,
+    f: Footprint,
+    out: &mut [u32],
+) -> Answer {
+    // SAFETY: each pointer has as many places as the length after it says, and only `out` is written.
+    answer(unsafe {
+        astc_decode_image(
+            data.as_ptr(),
+            data.len(),
+            width,
+            height,
+            f.width(),
+            f.height(),
+            out.as_mut_ptr(),
+            out.len(),
+        )
+    })
+}
+
+/// The answer, and the next block, the blocks painted and the bad ones.
+pub fn image_step(
+    data: &[u8],
+    (width, height): (usize, usize),
+    f: Footprint,
+    next: usize,
+    blocks: usize,
+    out: &mut [u32],
+) -> (Answer, [u64; 3]) {
+    let mut moved = [0; 3];
+    // SAFETY: each pointer has as many places as the length after it says, and only `out` and `moved` are written.
+    let number = unsafe {
+        astc_image_step(
+            data.as_ptr(),
+            data.len(),
+            width,
+            height,
+            f.width(),
+            f.height(),
+            next,
+            blocks,
+            out.as_mut_ptr(),
+            out.len(),
+            moved.as_mut_ptr(),
+            moved.len(),
+        )
+    };
+    (answer(number), moved)
+}
