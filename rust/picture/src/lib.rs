@@ -1,0 +1,4 @@
+//! Pictures of .astc files: the container, and the files that a picture is written to.
+
+pub mod container;
+pub mod png;
