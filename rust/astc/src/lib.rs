@@ -22,6 +22,7 @@ mod answer;
 mod bands;
 mod footprint;
 mod image;
+pub mod raw;
 mod surface;
 
 pub use answer::Answer;

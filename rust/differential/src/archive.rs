@@ -1,52 +1,7 @@
 //! The four functions of the archive, over slices.
 
+use astc::raw::{astc_block_map, astc_decode_block, astc_decode_image, astc_image_step};
 use model::Shape;
-
-extern "C" {
-    fn astc_decode_block(
-        block: *const u8,
-        block_len: usize,
-        bw: usize,
-        bh: usize,
-        out: *mut u32,
-        out_len: usize,
-    ) -> u32;
-
-    fn astc_block_map(
-        block: *const u8,
-        block_len: usize,
-        bw: usize,
-        bh: usize,
-        map: *mut u32,
-        map_len: usize,
-    ) -> u32;
-
-    fn astc_decode_image(
-        data: *const u8,
-        data_len: usize,
-        width: usize,
-        height: usize,
-        bw: usize,
-        bh: usize,
-        out: *mut u32,
-        out_len: usize,
-    ) -> u32;
-
-    fn astc_image_step(
-        data: *const u8,
-        data_len: usize,
-        width: usize,
-        height: usize,
-        bw: usize,
-        bh: usize,
-        next: usize,
-        blocks: usize,
-        out: *mut u32,
-        out_len: usize,
-        moved: *mut u64,
-        moved_len: usize,
-    ) -> u32;
-}
 
 /// Paints a block; the answer.
 pub fn decode_block(block: &[u8], bw: usize, bh: usize, out: &mut [u32]) -> u32 {
