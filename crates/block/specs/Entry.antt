@@ -55,11 +55,10 @@ answer-small s bw bh room =
     refusal (not (eqb (length s) 16)) 20 _ (omega arith) (refusal (not (listed bw bh)) 21 _ (omega arith) (refusal (ltb room (bw * bh)) 22 _ (omega arith) m))
 
 -- ---- the word whose halves were painted
-pub joined-is : (f : ℕ → ℕ) (n i : ℕ) → n ≤ 144 → i < n → joinedAt (put (halfAt f) 0 (2 * eights n) (replicate 288 0)) i ≡ f i
-joined-is f n i h l =
-    let z : length {A = ℕ} (replicate 288 0) ≡ 288 = length-replicate {A = ℕ} 288 0 in
-    let low = put-in (halfAt f) 0 (2 * eights n) (replicate 288 0) (2 * i) (omega (arith, z)) zero-le (omega arith) ∙ half-low f i in
-    let high = put-in (halfAt f) 0 (2 * eights n) (replicate 288 0) (2 * i + 1) (omega (arith, z)) zero-le (omega arith) ∙ half-high f i in
+pub joined-is : (f : ℕ → ℕ) (n i : ℕ) (s : List ℕ) → length s ≡ 288 → n ≤ 144 → i < n → joinedAt (put (halfAt f) 0 (2 * eights n) s) i ≡ f i
+joined-is f n i s z h l =
+    let low = put-in (halfAt f) 0 (2 * eights n) s (2 * i) (omega (arith, z)) zero-le (omega arith) ∙ half-low f i in
+    let high = put-in (halfAt f) 0 (2 * eights n) s (2 * i + 1) (omega (arith, z)) zero-le (omega arith) ∙ half-high f i in
     rw (low, high) (omega arith)
 
 -- ---- the ways out
@@ -84,7 +83,7 @@ module _ (s : List ℕ) (bw bh : ℕ) (out : List ℕ) where
     painted l f r n e b d w =
         let t : ltb (paramsOf (bytes 16 s) bw bh .answer) 20 ≡ true = lt-ltb (paramsOf (bytes 16 s) bw bh .answer) 20 (rw (answer-is (bytes 16 s) bw bh) (answer-lt (lowOf (bytes 16 s)) bw bh)) in
         rw (eq-eqb (length s) 16 l, f, le-ltb (length out) (bw * bh) r, t, sym e)
-        (b, w ∙ rw d (put-same _ _ 0 (bw * bh) out (λ k x y. joined-is (blockWord v bw bh) (bw * bh) k n y)))
+        (b, w ∙ rw d (put-same _ _ 0 (bw * bh) out (λ k x y. joined-is (blockWord v bw bh) (bw * bh) k _ (length-replicate {A = ℕ} 288 0) n y)))
 
 -- ---- the ways out of the map
 -- a block that is not legal has no fields

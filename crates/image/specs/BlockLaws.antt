@@ -19,10 +19,10 @@ use Rattle.paint.specs.Texels.{halfAt, eights}
 use Rattle.block.specs.Block.{blockWord, joinedAt, mapAnswer}
 use Rattle.block.specs.Entry.{joined-is, map-answer}
 use Rattle.block.specs.Facts.{footprint}
-use Rattle.image.specs.Image.{totalOf, pixelsOf, blockOf, texelOf, bytesOf, pixelWord, marked, isIn, paintedBlocks, badIn}
+use Rattle.image.specs.Image.{alongOf, totalOf, pixelsOf, blockOf, texelOf, bytesOf, pixelWord, marked, isIn, paintedBlocks, badIn}
 use Rattle.image.specs.Given.{Sized}
-use Rattle.image.specs.Places.{Shaped}
-use Rattle.image.specs.MarkLaws.{marked-same, painted-next}
+use Rattle.image.specs.Places.{Shaped, At, at-first}
+use Rattle.image.specs.MarkLaws.{marked-same, painted-none, painted-next}
 use Rattle.image.specs.ImageLaws.{sized-shaped}
 use Rattle.image.specs.declared.Shape.{Shape}
 
@@ -60,42 +60,81 @@ module _ (d : List ℕ) (m : Shape) (places b n v a : ℕ) (s : Sized m (length 
       let l : length (bytesOf d b) ≡ 16 = bytes-length d (totalOf m) b (s .bytes) h in
       e ∙ ap (λ (x : ℕ). cond (leb 10 x) 1 0) (ea ∙ ap (λ (x : ℕ). paramsOf x (m .bw) (m .bh) .answer) value-is ∙ sym (map-answer (bytesOf d b) (m .bw) (m .bh) l (s .footprint)))
 
-  pub block-painted : (halves now out : List ℕ) → halves ≡ put (halfAt (blockWord v (m .bw) (m .bh))) 0 (2 * eights (m .bw * m .bh)) (replicate 288 0)
-      → now ≡ marked (isIn m b (b + 1)) (λ (k : ℕ). joinedAt halves (texelOf m k)) out → now ≡ paintedBlocks d m b (b + 1) out
+  pub block-painted : (c : ℕ) (h halves now out : List ℕ) → length h ≡ 288 → b ≡ c → halves ≡ put (halfAt (blockWord v (m .bw) (m .bh))) 0 (2 * eights (m .bw * m .bh)) h
+      → now ≡ marked (isIn m c (c + 1)) (λ (k : ℕ). joinedAt halves (texelOf m k)) out → now ≡ paintedBlocks d m b (b + 1) out
   unfolding paintedBlocks pixelWord
-  block-painted halves now out eh en =
+  block-painted c h halves now out hl bc eh en =
       en
-      ∙ marked-same (isIn m b (b + 1)) (isIn m b (b + 1)) _ (pixelWord d m) out (λ k. refl)
+      ∙ marked-same (isIn m c (c + 1)) (isIn m b (b + 1)) _ (pixelWord d m) out (λ k. rw bc)
       (λ k x.
       let e : blockOf m k ≡ b = block-is m b k x in
       let f = footprint (m .bw) (m .bh) (s .footprint) in
       ap (λ (z : List ℕ). joinedAt z (texelOf m k)) eh
-      ∙ joined-is (blockWord v (m .bw) (m .bh)) (m .bw * m .bh) (texelOf m k) (f .texels) (texel-lt m k (sized-shaped m (length d) places s))
+      ∙ joined-is (blockWord v (m .bw) (m .bh)) (m .bw * m .bh) (texelOf m k) h hl (f .texels) (texel-lt m k (sized-shaped m (length d) places s))
       ∙ ap (λ (z : ℕ). blockWord z (m .bw) (m .bh) (texelOf m k)) (value-is ∙ ap (λ (z : ℕ). bytes 16 (bytesOf d z)) (sym e)))
 
--- ---- one block more
-module _ (d : List ℕ) (m : Shape) (first b : ℕ) (l : first ≤ b) where
-  pub painted-turn : (s t u : List ℕ) → t ≡ paintedBlocks d m first b s → u ≡ paintedBlocks d m b (b + 1) t → u ≡ paintedBlocks d m first (b + 1) s
-  painted-turn s t u e f = f ∙ ap (λ (x : List ℕ). paintedBlocks d m b (b + 1) x) e ∙ painted-next d m first b (b + 1) s l (omega arith)
+-- ---- block after block
+-- A loop over the blocks from first on to before end has come to block b, in column x and row y: out, which was s, has the blocks before b,
+-- and bad of them answered 10 to 16. Its rows are of so many blocks, and h has room for the halves of a block's words.
+pub record Painting (d : List ℕ) (m : Shape) (first end : ℕ) (s : List ℕ) (across : ℕ) (out h : List ℕ) (x y bad b : ℕ) : Type 0 where
+  pub rows : across ≡ alongOf (m .width) (m .bw)
+  pub narrow : across ≤ 4107
+  pub halves : length h ≡ 288
+  pub place : At m b x y
+  pub from : first ≤ b
+  pub to : b ≤ end
+  pub count : bad ≡ badIn d m first (b - first)
+  pub few : bad ≤ b
+  pub painted : out ≡ paintedBlocks d m first b s
 
-  pub bad-turn : (n r : ℕ) → n ≡ badIn d m first (b - first) → r ≡ cond (leb 10 (mapAnswer (bytesOf d b) (m .bw) (m .bh))) 1 0 → n + r ≡ badIn d m first (b + 1 - first)
-  unfolding badIn
-  bad-turn n r e f =
-      let s : b + 1 - first ≡ suc (b - first) = omega arith in
-      let i : first + (b - first) ≡ b = omega arith in
-      rw (s, e, f) (ap (λ (x : ℕ). badIn d m first (b - first) + cond (leb 10 (mapAnswer (bytesOf d x) (m .bw) (m .bh))) 1 0) (sym i))
-
--- ---- before the first, and after the last
-pub bad-none : (d : List ℕ) (m : Shape) (i : ℕ) → 0 ≡ badIn d m i (i - i)
+-- before the first
+bad-none : (d : List ℕ) (m : Shape) (i : ℕ) → 0 ≡ badIn d m i (i - i)
 unfolding badIn
 bad-none d m i = let e : i - i ≡ 0 = omega arith in rw e
 
-module _ (d : List ℕ) (m : Shape) (first b end : ℕ) (l : b ≤ end) (r : end ≤ b) where
-  pub bad-end : (n : ℕ) → n ≡ badIn d m first (b - first) → n ≡ badIn d m first (end - first)
-  bad-end n e = e ∙ ap (λ (x : ℕ). badIn d m first (x - first)) (omega arith)
+pub painting-first : (d : List ℕ) (m : Shape) (first end a : ℕ) (s h : List ℕ) → Shaped m → first ≤ end → a ≡ alongOf (m .width) (m .bw) → a ≤ 4107 → length h ≡ 288
+    → Painting d m first end s a s h (first % a) (first / a) 0 first
+painting-first d m first end a s h z l e k n = record {
+  rows = e;
+  narrow = k;
+  halves = n;
+  place = at-first m first a z e;
+  from = omega arith;
+  to = l;
+  count = bad-none d m first;
+  few = omega arith;
+  painted = painted-none d m first s;
+}
 
-  pub painted-end : (s t : List ℕ) → t ≡ paintedBlocks d m first b s → t ≡ paintedBlocks d m first end s
-  painted-end s t e = e ∙ ap (λ (x : ℕ). paintedBlocks d m first x s) (omega arith)
+module _ (d : List ℕ) (m : Shape) (first end a : ℕ) (s out h : List ℕ) (x y bad b : ℕ) (p : Painting d m first end s a out h x y bad b) where
+  -- one block more
+  more-bad : (r : ℕ) → r ≡ cond (leb 10 (mapAnswer (bytesOf d b) (m .bw) (m .bh))) 1 0 → bad + r ≡ badIn d m first (b + 1 - first)
+  unfolding badIn
+  more-bad r f =
+      let l = p .from in
+      let t : b + 1 - first ≡ suc (b - first) = omega arith in
+      let i : first + (b - first) ≡ b = omega arith in
+      rw (t, p .count, f) (ap (λ (z : ℕ). badIn d m first (b - first) + cond (leb 10 (mapAnswer (bytesOf d z) (m .bw) (m .bh))) 1 0) (sym i))
+
+  pub painting-next : (u v : ℕ) → At m (b + 1) u v → b < end → (r : ℕ) (o k : List ℕ) → (r ≡ cond (leb 10 (mapAnswer (bytesOf d b) (m .bw) (m .bh))) 1 0) × (r ≤ 1)
+      → (length k ≡ 288) × (o ≡ paintedBlocks d m b (b + 1) out) → Painting d m first end s a o k u v (bad + r) (b + 1)
+  painting-next u v q l r o k f g = record {
+    rows = p .rows;
+    narrow = p .narrow;
+    halves = g .0;
+    place = q;
+    from = omega (arith, p .from);
+    to = omega arith;
+    count = more-bad r (f .0);
+    few = omega (arith, p .few, f .1);
+    painted = g .1 ∙ ap (λ (z : List ℕ). paintedBlocks d m b (b + 1) z) (p .painted) ∙ painted-next d m first b (b + 1) s (p .from) (omega arith);
+  }
+
+  -- after the last
+  pub painting-last : end ≤ b → (bad ≡ badIn d m first (end - first)) × (out ≡ paintedBlocks d m first end s)
+  painting-last l =
+      let e : b ≡ end = omega (arith, p .to) in
+      (p .count ∙ ap (λ (z : ℕ). badIn d m first (z - first)) e, p .painted ∙ ap (λ (z : ℕ). paintedBlocks d m first z s) e)
 
 -- an output of the same length has the same room
 pub same-sized : (m : Shape) (len p q : ℕ) → Sized m len p → q ≡ p → Sized m len q

@@ -2,7 +2,7 @@
 -- Assumes nothing.
 use mathlib.Core.Path.{_≡_, sym, ap, _∙_}
 use Prim.Native.Nat.{ℕ, suc, _+_, _-_, _*_, _/_, _%_, _≤_, _<_, min}
-use native.Mathlib.Nat.{mul-comm, suc-mul, mul-le-mul, mul-le-mul-right, mod-lt, div-mul-le-self, div-add-mod', div-lt-iff-lt-mul}
+use native.Mathlib.Nat.{mul-comm, suc-mul, mul-le-mul, mul-le-mul-right, mod-lt, div-mul-le-self, div-le-self, div-add-mod', div-lt-iff-lt-mul}
 use native.Mathlib.Decide.{decLt}
 use native.Mathlib.Omega.{arith}
 use mathlib.Core.List.{List}
@@ -64,6 +64,55 @@ rowsOf m b = min (m .bh) (m .height - topOf m b)
 abbrev pub rowAt : Shape → ℕ → ℕ → ℕ
 rowAt m b r = (topOf m b + r) * m .width + leftOf m b
 
+-- there is a column of blocks
+pub some : (m : Shape) → Shaped m → 0 < alongOf (m .width) (m .bw)
+some m s = let l : 0 / m .bw < alongOf (m .width) (m .bw) = block-inside (m .width) (m .bw) 0 (s .bw) (s .width) in omega arith
+
+-- ---- a block by its column and row
+abbrev pub blockAt : Shape → ℕ → ℕ → ℕ
+blockAt m x y = y * alongOf (m .width) (m .bw) + x
+
+pub record Inside (m : Shape) (x y : ℕ) : Type 0 where
+  pub column : x < alongOf (m .width) (m .bw)
+  pub row : y < alongOf (m .height) (m .bh)
+
+module _ (m : Shape) (x y : ℕ) (h : Inside m x y) where
+  pub block-lt : blockAt m x y < totalOf m
+  block-lt = rw (mul-comm (alongOf (m .width) (m .bw)) (alongOf (m .height) (m .bh))) (digits-lt (h .row) (h .column))
+
+  pub left-is : x * m .bw ≡ leftOf m (blockAt m x y)
+  left-is = rw (digits-mod y (h .column))
+
+  pub top-is : y * m .bh ≡ topOf m (blockAt m x y)
+  top-is = rw (digits-div y (h .column))
+
+-- where a loop over the blocks from first on stands at block b
+pub record At (m : Shape) (b x y : ℕ) : Type 0 where
+  pub column : x < alongOf (m .width) (m .bw)
+  pub row : y ≤ b
+  pub block : b ≡ blockAt m x y
+
+pub at-inside : (m : Shape) (b x y : ℕ) → At m b x y → b < totalOf m → Inside m x y
+at-inside m b x y p h = record { column = p .column; row = go (decLt y (alongOf (m .height) (m .bh))) }
+  where
+    go : Dec (y < alongOf (m .height) (m .bh)) → y < alongOf (m .height) (m .bh)
+    go (yes l) = l
+    go (no l) =
+        let k : alongOf (m .height) (m .bh) * alongOf (m .width) (m .bw) ≤ y * alongOf (m .width) (m .bw) = mul-le-mul-right (alongOf (m .width) (m .bw)) (omega arith) in
+        absurd (omega (arith, p .block, mul-comm (alongOf (m .height) (m .bh)) (alongOf (m .width) (m .bw))))
+
+pub at-first : (m : Shape) (b a : ℕ) → Shaped m → a ≡ alongOf (m .width) (m .bw) → At m b (b % a) (b / a)
+at-first m b a s e = rw e (record { column = mod-lt b (some m s); row = div-le-self b _; block = sym (div-add-mod' b _) })
+
+module _ (m : Shape) (b x y a : ℕ) (e : a ≡ alongOf (m .width) (m .bw)) (p : At m b x y) where
+  pub at-next : (x + 1 ≡ a → ⊥) → At m (b + 1) (x + 1) y
+  at-next n = record { column = omega (arith, p .column, e, n); row = omega (arith, p .row); block = omega (arith, p .block) }
+
+  pub at-below : x + 1 ≡ a → Shaped m → At m (b + 1) 0 (y + 1)
+  at-below n s =
+      let k : suc y * alongOf (m .width) (m .bw) ≡ y * alongOf (m .width) (m .bw) + alongOf (m .width) (m .bw) = suc-mul y (alongOf (m .width) (m .bw)) in
+      record { column = some m s; row = omega (arith, p .row); block = omega (arith, p .block, e, n, k) }
+
 -- the texels of row r of a footprint are among its own
 pub texels-fit : (m : Shape) (b r : ℕ) → m .bw ≤ 12 → m .bh ≤ 12 → r < rowsOf m b → r * m .bw + columnsOf m b ≤ 144
 texels-fit m b r w h l =
@@ -75,16 +124,13 @@ module _ (m : Shape) (s : Shaped m) (b : ℕ) (h : b < totalOf m) where
   a : ℕ
   a = alongOf (m .width) (m .bw)
 
-  pub some : 0 < alongOf (m .width) (m .bw)
-  some = let l : 0 / m .bw < alongOf (m .width) (m .bw) = block-inside (m .width) (m .bw) 0 (s .bw) (s .width) in omega arith
-
   pub left-inside : leftOf m b < m .width
   unfolding a
-  left-inside = starts-inside (m .width) (m .bw) (b % a) (s .bw) (mod-lt b some)
+  left-inside = starts-inside (m .width) (m .bw) (b % a) (s .bw) (mod-lt b (some m s))
 
   pub top-inside : topOf m b < m .height
   unfolding a
-  top-inside = starts-inside (m .height) (m .bh) (b / a) (s .bh) (div-lt-iff-lt-mul some .1 (rw (mul-comm (alongOf (m .height) (m .bh)) a) h))
+  top-inside = starts-inside (m .height) (m .bh) (b / a) (s .bh) (div-lt-iff-lt-mul (some m s) .1 (rw (mul-comm (alongOf (m .height) (m .bh)) a) h))
 
   -- row r lies in the image
   pub row-fits : (r : ℕ) → r < rowsOf m b → rowAt m b r + columnsOf m b ≤ pixelsOf m

@@ -9,7 +9,7 @@ ghost use Rattle.block.specs.Block.{joinedAt, mapAnswer};
 ghost use Rattle.block.specs.Facts.{Tables};
 ghost use Rattle.image.specs.Image.{alongOf, totalOf, pixelsOf, texelOf, bytesOf, marked, isIn, paintedBlocks, badIn, isSide, refusalOf, imageOf, shape, refusedAt, movedBy, stepOf, stepped};
 ghost use Rattle.image.specs.Given.{Sides, Sized};
-ghost use Rattle.image.specs.Places.{Shaped, leftOf, topOf, rowsOf, columnsOf, rowAt};
+ghost use Rattle.image.specs.Places.{Shaped, Inside, blockAt, rowsOf, columnsOf, rowAt};
 
 // The size of an image and the footprint of its blocks.
 pub struct Shape {
@@ -103,20 +103,20 @@ fn copy_row(h: &[u16; 288], from: usize, out: &mut [u32], to: usize, n: usize)
     }
 }
 
-// The first column of block b.
-fn left_of(m: Shape, b: usize) -> usize
-    requires { ⌜ (Sides m) × ((Shaped m) × (b < totalOf m)) ⌝ }
-    ensures { λ r. ⌜ (r ≡ leftOf m b) × (r < m .width) ⌝ }
+// The first column of the blocks in column x.
+fn left_of(m: Shape, x: usize) -> usize
+    requires { ⌜ (Sides m) × ((Shaped m) × (x < alongOf (m .width) (m .bw))) ⌝ }
+    ensures { λ r. ⌜ (r ≡ x * m .bw) × (r < m .width) ⌝ }
 {
-    b % along(m.width, m.bw) * m.bw
+    x * m.bw
 }
 
-// The first row of block b.
-fn top_of(m: Shape, b: usize) -> usize
-    requires { ⌜ (Sides m) × ((Shaped m) × (b < totalOf m)) ⌝ }
-    ensures { λ r. ⌜ (r ≡ topOf m b) × (r < m .height) ⌝ }
+// The first row of the blocks in row y.
+fn top_of(m: Shape, y: usize) -> usize
+    requires { ⌜ (Sides m) × ((Shaped m) × (y < alongOf (m .height) (m .bh))) ⌝ }
+    ensures { λ r. ⌜ (r ≡ y * m .bh) × (r < m .height) ⌝ }
 {
-    b / along(m.width, m.bw) * m.bh
+    y * m.bh
 }
 
 // Where the pixels of row y from column x on stand.
@@ -127,26 +127,26 @@ fn place(m: Shape, y: usize, x: usize) -> usize
     y * m.width + x
 }
 
-// Copies row r of block b, as far as it lies in the image.
-fn copy_columns(h: &[u16; 288], m: Shape, b: usize, r: usize, out: &mut [u32])
-    requires { ⌜ (Sides m) × ((Shaped m) × ((b < totalOf m) × ((pixelsOf m ≤ length (now out)) × (r < rowsOf m b)))) ⌝ }
-    ensures { λ _. ⌜ now (out .exit) ≡ putAt (λ (i : ℕ). joinedAt (now (h .entry)) (r * m .bw + i)) (rowAt m b r) (columnsOf m b) (now (out .entry)) ⌝ }
+// Copies row r of the block in column x and row y, as far as it lies in the image.
+fn copy_columns(h: &[u16; 288], m: Shape, x: usize, y: usize, r: usize, out: &mut [u32])
+    requires { ⌜ (Sides m) × ((Shaped m) × ((Inside m x y) × ((pixelsOf m ≤ length (now out)) × (r < rowsOf m (blockAt m x y))))) ⌝ }
+    ensures { λ _. ⌜ now (out .exit) ≡ putAt (λ (i : ℕ). joinedAt (now (h .entry)) (r * m .bw + i)) (rowAt m (blockAt m x y) r) (columnsOf m (blockAt m x y)) (now (out .entry)) ⌝ }
 {
-    let left = left_of(m, b);
-    let top = top_of(m, b);
+    let left = left_of(m, x);
+    let top = top_of(m, y);
     let columns = smaller(m.bw, m.width - left);
     copy_row(h, r * m.bw, out, place(m, top + r, left), columns);
 }
 
-// Copies the words of block b to its pixels, as far as it lies in the image.
-fn copy_block(h: &[u16; 288], m: Shape, b: usize, out: &mut [u32])
-    requires { ⌜ (Sides m) × ((Shaped m) × ((b < totalOf m) × (pixelsOf m ≤ length (now out)))) ⌝ }
-    ensures { λ _. ⌜ now (out .exit) ≡ marked (isIn m b (b + 1)) (λ (k : ℕ). joinedAt (now (h .entry)) (texelOf m k)) (now (out .entry)) ⌝ }
+// Copies the words of the block in column x and row y to its pixels, as far as it lies in the image.
+fn copy_block(h: &[u16; 288], m: Shape, x: usize, y: usize, out: &mut [u32])
+    requires { ⌜ (Sides m) × ((Shaped m) × ((Inside m x y) × (pixelsOf m ≤ length (now out)))) ⌝ }
+    ensures { λ _. ⌜ now (out .exit) ≡ marked (isIn m (blockAt m x y) (blockAt m x y + 1)) (λ (k : ℕ). joinedAt (now (h .entry)) (texelOf m k)) (now (out .entry)) ⌝ }
 {
-    let rows = smaller(m.bh, m.height - top_of(m, b));
+    let rows = smaller(m.bh, m.height - top_of(m, y));
     let mut r = 0;
     while r < rows {
-        copy_columns(h, m, b, r, out);
+        copy_columns(h, m, x, y, r, out);
         r += 1;
     }
 }
@@ -160,7 +160,7 @@ fn is_bad(a: usize) -> usize
     1
 }
 
-// Paints block b, and says by 1 that it answered 10 to 16.
+// Paints block b, which is in column x and row y, and says by 1 that it answered 10 to 16. The halves of its words are put into h.
 fn paint_block(
     rev: &[u8; 256],
     t: &[u16; 256],
@@ -168,16 +168,18 @@ fn paint_block(
     data: &[u8],
     m: Shape,
     b: usize,
+    x: usize,
+    y: usize,
+    h: &mut [u16; 288],
     out: &mut [u32],
 ) -> usize
-    requires { ⌜ Tables (now rev) (now t) (now q) × (Sized m (length (now «data»)) (length (now out)) × (b < totalOf m)) ⌝ }
-    ensures { λ r. ⌜ ((r ≡ cond (leb 10 (mapAnswer (bytesOf (now («data» .entry)) b) (m .bw) (m .bh))) 1 0) × (r ≤ 1)) × (now (out .exit) ≡ paintedBlocks (now («data» .entry)) m b (b + 1) (now (out .entry))) ⌝ }
+    requires { ⌜ Tables (now rev) (now t) (now q) × (Sized m (length (now «data»)) (length (now out)) × ((b < totalOf m) × ((Inside m x y) × ((b ≡ blockAt m x y) × (length (now h) ≡ 288))))) ⌝ }
+    ensures { λ r. ⌜ ((r ≡ cond (leb 10 (mapAnswer (bytesOf (now («data» .entry)) b) (m .bw) (m .bh))) 1 0) × (r ≤ 1)) × ((length (now (h .exit)) ≡ 288) × (now (out .exit) ≡ paintedBlocks (now («data» .entry)) m b (b + 1) (now (out .entry)))) ⌝ }
 {
     let start = 16 * b;
     let end = start + 16;
-    let mut h = [0u16; 288];
-    let a = block::decode_halves(rev, t, q, bits::load(&data[start..end]), m.bw, m.bh, &mut h);
-    copy_block(&h, m, b, out);
+    let a = block::decode_halves(rev, t, q, bits::load(&data[start..end]), m.bw, m.bh, h);
+    copy_block(h, m, x, y, out);
     is_bad(a)
 }
 
@@ -189,11 +191,20 @@ fn paint_blocks(data: &[u8], m: Shape, first: usize, end: usize, out: &mut [u32]
     let rev = bits::reversal();
     let t = sequence::trits();
     let q = sequence::quints();
+    let mut h = [0u16; 288];
+    let across = along(m.width, m.bw);
+    let mut x = first % across;
+    let mut y = first / across;
     let mut bad = 0;
     let mut b = first;
     while b < end {
-        bad += paint_block(&rev, &t, &q, data, m, b, out);
+        bad += paint_block(&rev, &t, &q, data, m, b, x, y, &mut h, out);
         b += 1;
+        x += 1;
+        if x == across {
+            x = 0;
+            y += 1;
+        }
     }
     bad
 }

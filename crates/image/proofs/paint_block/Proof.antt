@@ -1,7 +1,10 @@
 -- The block's promise, and the copy's, by the laws of BlockLaws.
+use lib.ListN.{length}
+use Rattle.laws.specs.Lists.{length-put}
 use Rattle.image.specs.ImageLaws.{sized-sides, sized-shaped}
 use Rattle.image.specs.BlockLaws.{bad-is, block-painted}
 use Prim.Native.Nat.{_+_, _-_, _*_}
+use mathlib.Core.Path.{ap, _∙_}
 use native.Mathlib.Omega.{arith}
 use borrow.Author.Needs.{needs}
 use Rattle.image.proofs.paint_block.Statement.{statement}
@@ -29,7 +32,7 @@ decode-halves-requires : tie.Need-decode-halves-requires
 decode-halves-requires c κs = search needs
 
 copy-block-requires : tie.Need-copy-block-requires
-copy-block-requires c κs = let s = c .before .before .before .before .before .before .before .before in (sized-sides _ _ _ (s .pre .1 .0), (sized-shaped _ _ _ (s .pre .1 .0), (s .pre .1 .1, s .pre .1 .0 .room)))
+copy-block-requires c κs = let s = c .before .before .before .before .before .before .before .before in let p = s .pre .1 in (sized-sides _ _ _ (p .0), (sized-shaped _ _ _ (p .0), (p .1 .1 .0, p .0 .room)))
 
 is-bad-requires : tie.Need-is-bad-requires
 is-bad-requires c κs = search needs
@@ -38,7 +41,18 @@ same-length : tie.Need-same-length
 same-length c = search needs
 
 returns : tie.Need-returns
-returns c = let s = c .before .before .before .before .before .before .before .before .before .before .before .before in let d = c .before .before .before .before .before .before .decode-halves .ensures in let v = c .before .before .before .before .before .before .before .before .load .ensures in ((bad-is (s .args .«data» .now) (s .args .m) _ (s .args .b) (16 * s .args .b + 16 - 16 * s .args .b) _ _ (s .pre .1 .0) (s .pre .1 .1) v (omega arith) (d .0) _ (c .is-bad .ensures .0), c .is-bad .ensures .1), block-painted (s .args .«data» .now) (s .args .m) _ (s .args .b) (16 * s .args .b + 16 - 16 * s .args .b) _ _ (s .pre .1 .0) (s .pre .1 .1) v (omega arith) (d .0) _ _ _ (d .1) (c .before .before .before .copy-block .ensures))
+returns c =
+    let s = c .before .before .before .before .before .before .before .before .before .before .before .before in
+    let d = c .before .before .before .before .before .before .decode-halves .ensures in
+    let v = c .before .before .before .before .before .before .before .before .load .ensures in
+    let p = s .pre .1 in
+    let n = 16 * s .args .b + 16 - 16 * s .args .b in (
+      (bad-is (s .args .«data» .now) (s .args .m) _ (s .args .b) n _ _ (p .0) (p .1 .0) v (omega arith) (d .0) _ (c .is-bad .ensures .0), c .is-bad .ensures .1),
+      (
+        ap length (d .1) ∙ length-put _ _ _ _ ∙ p .1 .1 .1 .1,
+        block-painted (s .args .«data» .now) (s .args .m) _ (s .args .b) n _ _ (p .0) (p .1 .0) v (omega arith) (d .0) _ _ _ _ _ (p .1 .1 .1 .1) (p .1 .1 .1 .0) (d .1) (c .before .before .before .copy-block .ensures),
+      ),
+    )
 
 pub paint-block-spec : {M : Type 1} → statement M
 paint-block-spec =

@@ -1,21 +1,23 @@
--- The blocks before b are painted, and those that are bad counted.
+-- The blocks before b are painted, and those that are bad counted; block b is in column x and row y.
 use lib.ListN.{length}
 use Rattle.block.specs.Facts.{Tables}
-use Rattle.image.specs.Image.{paintedBlocks, badIn}
-use Rattle.image.specs.MarkLaws.{painted-none, length-painted}
-use Rattle.image.specs.BlockLaws.{painted-turn, bad-turn, bad-none, bad-end, painted-end, same-sized}
-use Prim.Native.Nat.{_-_, _≤_}
-use mathlib.Core.Path.{_≡_, ap, _∙_}
+use Rattle.image.specs.Image.{totalOf}
+use Rattle.image.specs.Places.{some, at-inside, at-next, at-below}
+use Rattle.image.specs.ImageLaws.{sized-sides, sized-shaped}
+use Rattle.image.specs.MarkLaws.{length-painted}
+use Rattle.image.specs.BlockLaws.{Painting, painting-first, painting-next, painting-last, same-sized}
+use Prim.Native.Nat.{_-_, _<_}
+use mathlib.Core.Path.{refl, ap, _∙_}
 use native.Mathlib.Omega.{arith}
 use borrow.Author.Needs.{needs}
 use Rattle.image.proofs.paint_blocks.Statement.{statement}
 use Rattle.image.proofs.paint_blocks.Tie as tie
 
 abbrev Inv-loop : tie.InvT-loop
-Inv-loop «data» m first end out₀ rev t q bad₀ b₀ out bad b = Tables rev t q × (((first ≤ b) × (b ≤ end)) × (((bad ≡ badIn «data» m first (b - first)) × (bad ≤ b)) × (out ≡ paintedBlocks «data» m first b out₀)))
+Inv-loop «data» m first end out₀ rev t q h₀ across x₀ y₀ bad₀ b₀ out h x y bad b = Tables rev t q × Painting «data» m first end out₀ across out h x y bad b
 
 abbrev μ-loop : tie.MeasureT-loop
-μ-loop «data» m first end out₀ rev t q bad₀ b₀ out bad b = end - b
+μ-loop «data» m first end out₀ rev t q h₀ across x₀ y₀ bad₀ b₀ out h x y bad b = end - b
 
 reversal-requires : tie.Need-reversal-requires Inv-loop μ-loop
 reversal-requires c κs = search needs
@@ -26,16 +28,27 @@ trits-requires c κs = search needs
 quints-requires : tie.Need-quints-requires Inv-loop μ-loop
 quints-requires c κs = search needs
 
+along-requires : tie.Need-along-requires Inv-loop μ-loop
+along-requires c κs = let z = sized-sides _ _ _ (c .before .before .before .before .before .pre .0) in (z .width, z .bw)
+
+rem-x : tie.Need-rem-x Inv-loop μ-loop
+rem-x c = omega (arith, c .along .ensures .0, some _ (sized-shaped _ _ _ (c .before .before .before .before .before .before .pre .0)))
+
+div-y : tie.Need-div-y Inv-loop μ-loop
+div-y c = omega (arith, c .along .ensures .0, some _ (sized-shaped _ _ _ (c .before .before .before .before .before .before .pre .0)))
+
 loop-holds : tie.Need-loop-holds Inv-loop μ-loop
 loop-holds c =
-    let s = c .before .before .before .before .before in
-    (record { reversal = c .before .before .reversal .ensures; trits = c .before .trits .ensures; quints = c .quints .ensures }, ((omega arith, s .pre .1 .0), ((bad-none _ _ (s .args .first), omega arith), painted-none _ _ (s .args .first) _)))
+    let s = c .before .before .before .before .before .before in
+    (record { reversal = c .before .before .before .reversal .ensures; trits = c .before .before .trits .ensures; quints = c .before .quints .ensures }, painting-first _ _ (s .args .first) _ _ _ _ (sized-shaped _ _ _ (s .pre .0)) (s .pre .1 .0) (c .along .ensures .0) (c .along .ensures .1) refl)
 
 paint-block-requires : tie.Need-paint-block-requires Inv-loop μ-loop
 paint-block-requires c κs =
-    let l = c .before .before .before .before .before .loop in
-    let s = c .before .before .before .before .before .before .before .before .before .before .before in
-    (l .inv .0, (same-sized _ _ _ _ (s .pre .0) (ap length (l .inv .1 .1 .1) ∙ length-painted _ _ _ _ _), omega (arith, s .pre .1 .1)))
+    let l = c .before .before .before .before .before .before .loop in
+    let s = c .before .before .before .before .before .before .before .before .before .before .before .before .before in
+    let p = l .inv .1 in
+    let h : l .b < totalOf (s .args .m) = omega (arith, s .pre .1 .1) in
+    (l .inv .0, (same-sized _ _ _ _ (s .pre .0) (ap length (p .painted) ∙ length-painted _ _ _ _ _), (h, (at-inside _ _ _ _ (p .place) h, (p .place .block, p .halves)))))
 
 add-bad : tie.Need-add-bad Inv-loop μ-loop
 add-bad c = omega arith
@@ -43,24 +56,38 @@ add-bad c = omega arith
 add-b : tie.Need-add-b Inv-loop μ-loop
 add-b c = omega arith
 
+add-x : tie.Need-add-x Inv-loop μ-loop
+add-x c = omega arith
+
+add-y : tie.Need-add-y Inv-loop μ-loop
+add-y c = omega arith
+
 loop-less : tie.Need-loop-less Inv-loop μ-loop
 loop-less c = omega arith
 
 loop-again : tie.Need-loop-again Inv-loop μ-loop
 loop-again c =
-    let l = c .before .before .before .before .before .before .before .before .loop in
-    let p = c .before .before .paint-block .ensures in
-    let i = l .inv .1 in
-    (l .inv .0, ((omega (arith, i .0 .0), omega arith), ((bad-turn _ _ _ (l .b) (i .0 .0) _ _ (i .1 .0 .0) (p .0 .0), omega (arith, i .1 .0 .1, p .0 .1)), painted-turn _ _ _ (l .b) (i .0 .0) _ _ _ (i .1 .1) (p .1))))
+    let l = c .before .before .before .before .before .before .before .before .before .before .loop in
+    let s = c .before .before .before .before .before .before .before .before .before .before .before .before .before .before .before .before .before in
+    let e = c .before .before .before .paint-block .ensures in
+    let p = l .inv .1 in
+    (l .inv .0, painting-next _ _ _ _ _ _ _ _ _ _ _ _ p _ _ (at-below _ _ _ _ _ (p .rows) (p .place) (c .if1 .taken) (sized-shaped _ _ _ (s .pre .0))) (omega arith) _ _ _ (e .0) (e .1))
+
+loop-less-2 : tie.Need-loop-less-2 Inv-loop μ-loop
+loop-less-2 c = omega arith
+
+loop-again-2 : tie.Need-loop-again-2 Inv-loop μ-loop
+loop-again-2 c =
+    let l = c .before .before .before .before .before .before .before .before .before .before .loop in
+    let e = c .before .before .before .paint-block .ensures in
+    let p = l .inv .1 in
+    (l .inv .0, painting-next _ _ _ _ _ _ _ _ _ _ _ _ p _ _ (at-next _ _ _ _ _ (p .rows) (p .place) (c .if1 .left)) (omega arith) _ _ _ (e .0) (e .1))
 
 same-length : tie.Need-same-length Inv-loop μ-loop
-same-length c = ap length (c .before .loop .inv .1 .1 .1) ∙ length-painted _ _ _ _ _
+same-length c = ap length (c .before .loop .inv .1 .painted) ∙ length-painted _ _ _ _ _
 
 returns : tie.Need-returns Inv-loop μ-loop
-returns c =
-    let l = c .before .loop in
-    let i = l .inv .1 in
-    (bad-end _ _ _ (l .b) _ (i .0 .1) (omega arith) _ (i .1 .0 .0), painted-end _ _ _ (l .b) _ (i .0 .1) (omega arith) _ _ (i .1 .1))
+returns c = painting-last _ _ _ _ _ _ _ _ _ _ _ _ (c .before .loop .inv .1) (omega arith)
 
 pub paint-blocks-spec : {M : Type 1} → statement M
 paint-blocks-spec =
@@ -71,11 +98,18 @@ paint-blocks-spec =
     reversal-requires
     trits-requires
     quints-requires
+    along-requires
+    rem-x
+    div-y
     loop-holds
     paint-block-requires
     add-bad
     add-b
+    add-x
+    add-y
     loop-less
     loop-again
+    loop-less-2
+    loop-again-2
     same-length
     returns)
