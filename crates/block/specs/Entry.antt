@@ -10,10 +10,10 @@ use lib.ListN.{length, replicate, length-replicate}
 use borrow.Author.Tests.{eq-eqb, ne-eqb, eqb-false, lt-ltb, le-ltb}
 use Rattle.laws.specs.Lists.{put, put-in, put-same}
 use Rattle.bits.specs.Bits.{bytes}
-use Rattle.params.specs.Blocks.{listed, used, weights, endVerdict, verdict, answer, lowOf, noMap, refused, paramsOf}
+use Rattle.params.specs.Blocks.{listed, used, weights, endVerdict, verdict, answer, lowOf, noMap, refused, paramsOf, judgedOf}
 use Rattle.params.specs.Config.{isVoid, isReserved, configOf}
 use Rattle.params.specs.declared.Config.{Config}
-use Rattle.params.specs.declared.Params.{Params}
+use Rattle.params.specs.declared.Judged.{Judged}
 use Rattle.params.specs.Laws.{answer-is}
 use Rattle.paint.specs.Texels.{halfAt, eights}
 use Rattle.paint.specs.PaintLaws.{half-low, half-high}
@@ -104,7 +104,7 @@ module _ (s : List ℕ) (bw bh : ℕ) where
   unfolding answerOf mapAnswer
   map-answer h l = rw (eq-eqb (length s) 16 h, l, le-ltb (bw * bh) (bw * bh) (omega arith))
 
-  pub map-block : (v : ℕ) (p : Params) → length s ≡ 16 → listed bw bh ≡ true → v ≡ bytes 16 s → p ≡ paramsOf v bw bh → reportOf (p .answer) (p .map) ≡ blockMap s bw bh
+  pub map-block : (v : ℕ) (p : Judged) → length s ≡ 16 → listed bw bh ≡ true → v ≡ bytes 16 s → p ≡ judgedOf (paramsOf v bw bh) → reportOf (p .answer) (p .map) ≡ blockMap s bw bh
   unfolding blockMap
   map-block v p h l e q = rw (map-answer h l, q, e) (ap (reportOf a) (go (eqb a 0) refl))
     where

@@ -17,7 +17,8 @@ use Rattle.sequence.specs.Ranges.{rangeOf}
 use Rattle.sequence.specs.Sequence.{totalOf, valuesOf}
 use Rattle.sequence.specs.declared.Range.{Range}
 use Rattle.half.specs.Half.{half, productOf, hdrByteOf, voidByteOf}
-use Rattle.params.specs.Blocks.{listed, paramsOf}
+use Rattle.params.specs.Blocks.{listed, paramsOf, judgedOf}
+use Rattle.params.specs.declared.Judged.{Judged}
 use Rattle.params.specs.declared.Params.{Params}
 use Rattle.endpoints.specs.Unquantised.{endpointValues}
 use Rattle.endpoints.specs.Endpoints.{endpointsList}
@@ -124,6 +125,9 @@ is-listed w h = one Bool (listed w h)
 
 pub decode-block-params : (b : Block) (bw bh : ℕ) → Tight Params (λ r. r ≡ paramsOf (valueOf b) bw bh)
 decode-block-params b bw bh = one Params (paramsOf (valueOf b) bw bh)
+
+pub decode-block-map : (b : Block) (bw bh : ℕ) → Tight Judged (λ r. r ≡ judgedOf (paramsOf (valueOf b) bw bh))
+decode-block-map b bw bh = one Judged (judgedOf (paramsOf (valueOf b) bw bh))
 
 -- ---- endpoints
 pub unquantize : (q : ℕ) (seq : List ℕ) → Tight (List ℕ) (λ out. out ≡ endpointValues q seq)

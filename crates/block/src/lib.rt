@@ -332,7 +332,7 @@ pub fn block_map(s: &[u8], bw: usize, bh: usize) -> BlockMap
 {
     if s.len() == 16 {
         if params::is_listed(bw, bh) {
-            let p = params::decode_block_params(bits::load(s), bw, bh);
+            let p = params::decode_block_map(bits::load(s), bw, bh);
             return report(p.answer, p.map);
         }
         return no_fields(21);

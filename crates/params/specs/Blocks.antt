@@ -10,6 +10,7 @@ use Rattle.sequence.specs.Ranges.{topOf}
 use Rattle.params.specs.Config.{isVoid, isReserved, configOf, partsOf, confLen, numberOf, modeOf}
 use Rattle.params.specs.declared.Config.{Config}
 use Rattle.params.specs.declared.Map.{Map}
+use Rattle.params.specs.declared.Judged.{Judged}
 use Rattle.params.specs.declared.Params.{Params}
 
 -- ---- the answer
@@ -130,3 +131,7 @@ paramsOf v bw bh =
     cond (eqb (answer c bw bh) 0)
     (legal c (extraOf (mapOf (configOf c)) v))
     (refused (answer c bw bh))
+
+-- ---- the answer and the map alone
+abbrev pub judgedOf : Params → Judged
+judgedOf p = record { answer = p .answer; map = p .map }

@@ -15,10 +15,11 @@ use Rattle.sequence.specs.Sequence.{totalOf}
 use Rattle.params.specs.Ranges.{cost, widest}
 use Rattle.params.specs.Widest.{Roomy}
 use Rattle.params.specs.Config.{isVoid, isReserved, configOf, partsOf, confLen, modeOf, classOf}
-use Rattle.params.specs.Blocks.{endVerdict, verdict, answer, used, weights, lowOf, endRange, mapOf, legal, refused, extraOf, paramsOf}
+use Rattle.params.specs.Blocks.{endVerdict, verdict, answer, used, weights, lowOf, endRange, mapOf, legal, refused, extraOf, paramsOf, judgedOf}
 use Rattle.params.specs.Bounds.{Small, small, rest-most}
 use Rattle.params.specs.declared.Config.{Config}
 use Rattle.params.specs.declared.Map.{Map}
+use Rattle.params.specs.declared.Judged.{Judged}
 use Rattle.params.specs.declared.Params.{Params}
 
 -- ---- the checks
@@ -241,6 +242,21 @@ out-rule v bw bh c a k r w s q i j m n o p z g = g ∙ refused-low c v bw bh a q
 
 pub out-legal : (v bw bh c a : ℕ) (k : Config) (r : Params) (w s : Bool) → c ≡ lowOf v → w ≡ isVoid c → w ≡ false → s ≡ isReserved c → s ≡ false → k ≡ configOf c → a ≡ verdict k bw bh → a ≡ 0 → r ≡ legal c (extraOf (mapOf (configOf c)) v) → r ≡ paramsOf v bw bh
 out-legal v bw bh c a k r w s q i j m n o p z g = g ∙ legal-low c v bw bh q (ruled bw bh c a k w s i j m n o p ∙ z)
+
+-- the same of the answer and the map alone
+pub map-void : (v bw bh c : ℕ) (r : Judged) (w : Bool) → c ≡ lowOf v → w ≡ isVoid c → w ≡ true → r ≡ judgedOf (refused 1) → r ≡ judgedOf (paramsOf v bw bh)
+map-void v bw bh c r w q i j g = g ∙ ap judgedOf (out-void v bw bh c (refused 1) w q i j refl)
+
+pub map-reserved : (v bw bh c : ℕ) (r : Judged) (w s : Bool) → c ≡ lowOf v → w ≡ isVoid c → w ≡ false → s ≡ isReserved c → s ≡ true → r ≡ judgedOf (refused 10) → r ≡ judgedOf (paramsOf v bw bh)
+map-reserved v bw bh c r w s q i j m n g = g ∙ ap judgedOf (out-reserved v bw bh c (refused 10) w s q i j m n refl)
+
+pub map-rule : (v bw bh c a : ℕ) (k : Config) (r : Judged) (w s : Bool) → c ≡ lowOf v → w ≡ isVoid c → w ≡ false → s ≡ isReserved c → s ≡ false → k ≡ configOf c → a ≡ verdict k bw bh → (a ≡ 0 → ⊥) → r ≡ judgedOf (refused a) → r ≡ judgedOf (paramsOf v bw bh)
+map-rule v bw bh c a k r w s q i j m n o p z g = g ∙ ap judgedOf (out-rule v bw bh c a k (refused a) w s q i j m n o p z refl)
+
+pub map-legal : (v bw bh c a : ℕ) (k : Config) (r : Judged) (w s : Bool) → c ≡ lowOf v → w ≡ isVoid c → w ≡ false → s ≡ isReserved c → s ≡ false → k ≡ configOf c → a ≡ verdict k bw bh → a ≡ 0 → r ≡ record { answer = 0; map = mapOf k } → r ≡ judgedOf (paramsOf v bw bh)
+unfolding legal
+map-legal v bw bh c a k r w s q i j m n o p z g =
+    g ∙ ap (λ (x : Config). record { answer = 0; map = mapOf x }) o ∙ ap judgedOf (out-legal v bw bh c a k _ w s q i j m n o p z refl)
 
 pub small-of : (c : ℕ) (k : Config) → k ≡ configOf c → Small k
 small-of c k e = rw e (small c)

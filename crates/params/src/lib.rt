@@ -8,7 +8,7 @@ ghost use Rattle.sequence.specs.Ranges.{topOf};
 ghost use Rattle.params.specs.Ranges.{cost, widest};
 ghost use Rattle.params.specs.Widest.{Roomy, inverseOf, wholeBits};
 ghost use Rattle.params.specs.Config.{isVoid, isReserved, gridLow, gridHigh, gridOf, weightR, weightH, weightD, lacksDH, partsOf, numberOf, modeBase, classOf, restOf, modeOf, valuesTo, confLen, modeBits, configOf};
-ghost use Rattle.params.specs.Blocks.{listed, oneOf2, endVerdict, verdict, answer, used, extraLen, lowOf, endRange, mapOf, modeAt, channelOf, upperOf, legal, refused, paramsOf, extraOf};
+ghost use Rattle.params.specs.Blocks.{listed, oneOf2, endVerdict, verdict, answer, used, extraLen, lowOf, endRange, mapOf, modeAt, channelOf, upperOf, legal, noMap, refused, paramsOf, judgedOf, extraOf};
 ghost use Rattle.params.specs.Bounds.{Small};
 
 pub struct Grid {
@@ -47,6 +47,12 @@ pub struct Params {
     pub modes: [u8; 4],
     pub number: usize,
     pub range: usize,
+    pub map: Map,
+}
+
+// The answer of a block, and its map alone.
+pub struct Judged {
+    pub answer: usize,
     pub map: Map,
 }
 
@@ -546,6 +552,22 @@ fn upper_of(planes: usize, e: usize) -> usize
     if planes == 2 { e / 4 } else { e }
 }
 
+// The map of a block that is not legal.
+fn no_map() -> Map
+    ensures { λ r. ⌜ r ≡ noMap ⌝ }
+{
+    Map {
+        top: 0,
+        lowlen: 0,
+        endat: 0,
+        endlen: 0,
+        extraat: 0,
+        extralen: 0,
+        weightat: 0,
+        weightlen: 0,
+    }
+}
+
 fn refuse(answer: usize) -> Params
     ensures { λ r. ⌜ r ≡ refused answer ⌝ }
 {
@@ -566,16 +588,7 @@ fn refuse(answer: usize) -> Params
         modes: [0, 0, 0, 0],
         number: 0,
         range: 0,
-        map: Map {
-            top: 0,
-            lowlen: 0,
-            endat: 0,
-            endlen: 0,
-            extraat: 0,
-            extralen: 0,
-            weightat: 0,
-            weightlen: 0,
-        },
+        map: no_map(),
     }
 }
 
@@ -593,4 +606,41 @@ pub fn decode_block_params(b: Block, bw: usize, bh: usize) -> Params
     let k = read_config(c);
     let a = judge(k, bw, bh);
     if a == 0 { accept(b, c, k) } else { refuse(a) }
+}
+
+// The map of a legal block: k is what its low configuration says.
+fn accept_map(k: Config) -> Judged
+    requires { ⌜ Small k ⌝ ∗ ⌜ Roomy (k .values) (128 - used k) ⌝ ∗ ⌜ used k ≤ 128 ⌝ }
+    ensures { λ r. ⌜ r ≡ record { answer = 0; map = mapOf k } ⌝ }
+{
+    Judged {
+        answer: 0,
+        map: map_of(k, end_range(k)),
+    }
+}
+
+fn refuse_map(answer: usize) -> Judged
+    ensures { λ r. ⌜ r ≡ judgedOf (refused answer) ⌝ }
+{
+    Judged {
+        answer,
+        map: no_map(),
+    }
+}
+
+// The answer and the map alone of the block b. The decoder, which needs the rest as well, has decode_block_params to itself: it is then
+// compiled into the decoder, and what nobody reads there is not worked out.
+pub fn decode_block_map(b: Block, bw: usize, bh: usize) -> Judged
+    ensures { λ r. ⌜ r ≡ judgedOf (paramsOf (valueOf b) bw bh) ⌝ }
+{
+    let c = low_config(b);
+    if is_void(c) {
+        return refuse_map(1);
+    }
+    if is_reserved(c) {
+        return refuse_map(10);
+    }
+    let k = read_config(c);
+    let a = judge(k, bw, bh);
+    if a == 0 { accept_map(k) } else { refuse_map(a) }
 }

@@ -11,8 +11,8 @@ is-listed-requires c κs = search needs
 load-requires : tie.Need-load-requires
 load-requires c κs = search needs
 
-decode-block-params-requires : tie.Need-decode-block-params-requires
-decode-block-params-requires c κs = search needs
+decode-block-map-requires : tie.Need-decode-block-map-requires
+decode-block-map-requires c κs = search needs
 
 report-requires : tie.Need-report-requires
 report-requires c κs = search needs
@@ -20,7 +20,7 @@ report-requires c κs = search needs
 returns : tie.Need-returns
 returns c =
     c .report .ensures
-    ∙ map-block _ _ _ _ _ (c .before .before .before .before .before .if1 .taken) (sym (c .before .before .before .before .is-listed .ensures) ∙ c .before .before .before .if2 .taken) (c .before .before .load .ensures) (c .before .decode-block-params .ensures)
+    ∙ map-block _ _ _ _ _ (c .before .before .before .before .before .if1 .taken) (sym (c .before .before .before .before .is-listed .ensures) ∙ c .before .before .before .if2 .taken) (c .before .before .load .ensures) (c .before .decode-block-map .ensures)
 
 no-fields-requires : tie.Need-no-fields-requires
 no-fields-requires c κs = search needs
@@ -42,7 +42,7 @@ block-map-spec =
     (tie.spec
     is-listed-requires
     load-requires
-    decode-block-params-requires
+    decode-block-map-requires
     report-requires
     returns
     no-fields-requires

@@ -1,12 +1,15 @@
 -- `params::refuse` meets its contract: every number is 0. Assumes nothing.
-use mathlib.Core.Path.{refl}
 use Rattle.params.specs.Blocks.{refused}
+use borrow.Author.Needs.{needs}
 use Rattle.params.proofs.refuse.Statement.{statement}
 use Rattle.params.proofs.refuse.Tie as tie
 
+no-map-requires : tie.Need-no-map-requires
+no-map-requires c κs = search needs
+
 returns : tie.Need-returns
 unfolding refused
-returns c = refl
+returns c = rw (c .no-map .ensures)
 
 pub refuse-spec : {M : Type 1} → statement M
-refuse-spec = tie.close (tie.spec returns)
+refuse-spec = tie.close (tie.spec no-map-requires returns)
