@@ -1,15 +1,17 @@
 -- The laws of HDR texels, whose channels are painted one after the other.
 -- Assumes nothing.
-use mathlib.Core.Path.{_≡_, refl, ap, _∙_}
+use mathlib.Core.Path.{_≡_, refl, sym, ap, _∙_}
 use mathlib.Core.Bool.{cond}
 use mathlib.Core.List.{List}
-use Prim.Native.Nat.{ℕ, zero, suc, _+_, _*_, _≤_, _<_}
+use Prim.Native.Nat.{ℕ, zero, suc, _+_, _-_, _*_, _/_, _≤_, _<_}
+use native.Mathlib.Nat.{mul-add}
 use native.Mathlib.Omega.{arith}
 use lib.Dec.{ltb}
 use lib.ListN.{getD, replicate}
 use borrow.Author.Tests.{lt-ltb}
 use Rattle.laws.specs.Lists.{put, put-same, zeros-at}
-use Rattle.blend.specs.Blend.{hdrChannel, wordOf}
+use Rattle.half.specs.Half.{hdrByteOf}
+use Rattle.blend.specs.Blend.{between, halfOf, hdrChannel, wordOf}
 use Rattle.endpoints.specs.Bounds.{Within, limit}
 use Rattle.endpoints.specs.Colours.{nothing}
 use Rattle.endpoints.specs.declared.Mark.{Mark}
@@ -54,6 +56,23 @@ pub hdr-first : (parts n x : ℕ) (a b weights map out s : List ℕ) → parts �
     → out ≡ put (λ (i : ℕ). hdrChannel (getD a 0 0) (getD b 0 0) (getD weights (x + i) 0)) 0 (eights n) s → out ≡ put (hdrAt a b weights map x) 0 (eights n) s
 hdr-first parts n x a b weights map out s e mapped h =
     h ∙ put-same _ _ 0 (eights n) s (λ i l m. let z : getD map i 0 ≡ 0 = omega (arith, mapped i) in rw z)
+
+-- equal endpoints need no weight
+flat : (v w : ℕ) → w ≤ 64 → hdrChannel v v 0 ≡ hdrChannel v v w
+unfolding between
+flat v w h =
+    let e : v * 16 * (64 - w) + v * 16 * w ≡ v * 16 * (64 - w + w) = sym (mul-add (v * 16) (64 - w) w) in
+    let f : v * 16 * (64 - w + w) ≡ v * 16 * 64 = ap (λ (z : ℕ). v * 16 * z) (omega arith) in
+    ap (λ (z : ℕ). hdrByteOf (halfOf ((z + 32) / 64))) (omega (arith, e, f))
+
+pub hdr-flat-first : (parts n x : ℕ) (a b weights map out s : List ℕ) → parts ≡ 1 → ((i : ℕ) → getD map i 0 < parts) → ((i : ℕ) → getD weights i 0 ≤ 64)
+    → getD a 0 0 ≡ getD b 0 0 → out ≡ put (λ (i : ℕ). hdrChannel (getD a 0 0) (getD a 0 0) 0) 0 (eights n) s → out ≡ put (hdrAt a b weights map x) 0 (eights n) s
+hdr-flat-first parts n x a b weights map out s e mapped low same h =
+    h
+    ∙ put-same _ _ 0 (eights n) s
+    (λ i l m.
+    let z : getD map i 0 ≡ 0 = omega (arith, mapped i) in
+    flat (getD a 0 0) (getD weights (x + i) 0) (low (x + i)) ∙ rw (z, sym same))
 
 -- ---- a texel
 hdr-word : (e : Endpoints) (r g b a : ℕ) → e .color ≡ Hdr → e .alpha ≡ Hdr

@@ -29,6 +29,20 @@ fn hdr_one(out: &mut [u8; 144], n: usize, w: &[u8; 288], x: usize, v0: u16, v1: 
     }
 }
 
+// The same where both endpoints have the number v, which no weight changes: the alpha of an opaque colour.
+fn hdr_flat(out: &mut [u8; 144], n: usize, v: u16)
+    requires { ⌜ (n ≤ 144) × (v < 4096) ⌝ }
+    ensures { λ _. ⌜ now (out .exit) ≡ put (λ (i : ℕ). hdrChannel v v 0) 0 (eights n) (now (out .entry)) ⌝ }
+{
+    let x = hdr_channel(v, v, 0);
+    let m = (n + 7) / 8 * 8;
+    let mut i = 0;
+    while i < m {
+        out[i] = x;
+        i += 1;
+    }
+}
+
 // The same of two partitions: a and b have the numbers of each.
 fn hdr_two(
     out: &mut [u8; 144],
@@ -101,7 +115,12 @@ fn hdr_bytes<'a>(
     let a = v.first;
     let b = v.second;
     if parts == 1 {
-        return hdr_one(out, n, w, x, a[0], b[0]);
+        let v0 = a[0];
+        let v1 = b[0];
+        if v0 == v1 {
+            return hdr_flat(out, n, v0);
+        }
+        return hdr_one(out, n, w, x, v0, v1);
     }
     if parts == 2 {
         return hdr_two(out, n, w, x, map, a, b);
