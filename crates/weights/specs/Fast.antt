@@ -111,6 +111,12 @@ wholeAt wv width k h s = downTo (getD wv (k + s) 0) (getD wv (k + width + s) 0) 
 abbrev pub wholeOf : Grid → List ℕ → ℕ → ℕ → ℕ
 wholeOf g wv s t = wholeAt wv (g .width) (downOf g t / 16 * g .width) (downOf g t % 16) s
 
+-- ---- a grid that is the footprint, in two planes
+
+-- the weights of the first i texels of each plane, which stand in turns in wv, and 0 after them
+abbrev pub partedTo : List ℕ → ℕ → ℕ → ℕ
+partedTo wv i k = cond (ltb (k % 144) i) (getD wv (2 * (k % 144) + k / 144) 0) 0
+
 -- ---- the whole footprint
 
 -- the weights of a footprint's texels, and 0 after them, f s t being that of column s in row t

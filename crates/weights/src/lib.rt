@@ -9,7 +9,7 @@ ghost use Rattle.sequence.specs.Ranges.{rangeOf, levels};
 ghost use Rattle.weights.specs.Weights.{raised, weightOf};
 ghost use Rattle.weights.specs.Given.{Fits, Given, isSide, countOf};
 ghost use Rattle.weights.specs.Infill.{stepOf, placeOf, infillOf, weightsOf};
-ghost use Rattle.weights.specs.Fast.{eights, each, plainOf, sumOf, turned, mixedOf, pairOf, lowOf, Pairs, placed, spreadAt, between, rowAt, rowsOf, downTo, wholeAt, texels, planeOf};
+ghost use Rattle.weights.specs.Fast.{eights, each, plainOf, sumOf, turned, mixedOf, pairOf, lowOf, Pairs, placed, spreadAt, between, rowAt, rowsOf, downTo, wholeAt, partedTo, texels, planeOf};
 
 // How a grid lies in a footprint.
 pub struct Grid {
@@ -389,6 +389,43 @@ fn decode_wide(out: &mut [u8; 288], g: Grid, n: usize, q: usize, seq: &[u8; 72])
     fill_down(out, g, &wv);
 }
 
+// Whether the grid is the footprint, in two planes.
+fn is_whole(g: Grid) -> bool
+    ensures { λ r. ⌜ r ≡ (eqb (g .planes) 2 && (eqb (g .width) (g .bw) && eqb (g .height) (g .bh))) ⌝ }
+{
+    if g.planes == 2 {
+        if g.width == g.bw {
+            return g.height == g.bh;
+        }
+        return false;
+    }
+    false
+}
+
+// Tells the weights of two planes apart, which stand in turns: those of n texels, and on to the next multiple of 8.
+fn part_planes(out: &mut [u8; 288], n: usize, wv: &[u8; 288])
+    requires { ⌜ (n ≤ 144) × (now out ≡ replicate 288 0) ⌝ }
+    ensures { λ _. ⌜ now (out .exit) ≡ listOf (partedTo (now (wv .entry)) (eights n)) 0 288 ⌝ }
+{
+    let m = (n + 7) / 8 * 8;
+    let mut i = 0;
+    while i < m {
+        out[i] = wv[2 * i];
+        out[144 + i] = wv[2 * i + 1];
+        i += 1;
+    }
+}
+
+// A grid of two planes that is the footprint needs no infill.
+fn decode_planes(out: &mut [u8; 288], g: Grid, n: usize, q: usize, seq: &[u8; 72])
+    requires { ⌜ (Given g q (now seq) (now out)) × (n ≡ countOf g) × (g .planes ≡ 2) × (g .width ≡ g .bw) × (g .height ≡ g .bh) ⌝ }
+    ensures { λ _. ⌜ now (out .exit) ≡ weightsOf g q (now (seq .entry)) ⌝ }
+{
+    let mut wv = [0u8; 288];
+    unquantize(&mut wv, n, q, seq);
+    part_planes(out, n / 2, &wv);
+}
+
 // Any grid.
 fn decode_any(out: &mut [u8; 288], g: Grid, n: usize, q: usize, seq: &[u8; 72])
     requires { ⌜ (Given g q (now seq) (now out)) × (n ≡ countOf g) ⌝ }
@@ -408,6 +445,9 @@ pub fn decode_weights(out: &mut [u8; 288], g: Grid, q: usize, seq: &[u8; 72])
     let n = g.width * g.height * g.planes;
     if is_wide(g) {
         return decode_wide(out, g, n, q, seq);
+    }
+    if is_whole(g) {
+        return decode_planes(out, g, n, q, seq);
     }
     decode_any(out, g, n, q, seq);
 }

@@ -5,7 +5,7 @@ use native.Mathlib.Omega.{arith}
 use borrow.Author.Needs.{needs}
 use native.Mathlib.Nat.{mul-le-mul}
 use Rattle.weights.specs.InfillLaws.{sides-in}
-use Rattle.weights.specs.DecodeLaws.{wide-true}
+use Rattle.weights.specs.DecodeLaws.{wide-true, whole-true}
 use Rattle.weights.proofs.decode_weights.Statement.{statement}
 use Rattle.weights.proofs.decode_weights.Tie as tie
 
@@ -31,11 +31,23 @@ decode-wide-requires c κs =
 returns : tie.Need-returns
 returns c = search needs
 
-decode-any-requires : tie.Need-decode-any-requires
-decode-any-requires c κs = search needs
+is-whole-requires : tie.Need-is-whole-requires
+is-whole-requires c κs = search needs
+
+decode-planes-requires : tie.Need-decode-planes-requires
+decode-planes-requires c κs =
+    let s = c .before .before .before .before .before .before .before in
+    let w = whole-true (s .args .g) (rw (c .before .before .is-whole .ensures) at (c .before .if2 .taken)) in
+    (s .pre, refl, w .0, w .1, w .2)
 
 returns-2 : tie.Need-returns-2
 returns-2 c = search needs
+
+decode-any-requires : tie.Need-decode-any-requires
+decode-any-requires c κs = search needs
+
+returns-3 : tie.Need-returns-3
+returns-3 c = search needs
 
 pub decode-weights-spec : {M : Type 1} → statement M
 decode-weights-spec =
@@ -46,5 +58,8 @@ decode-weights-spec =
     is-wide-requires
     decode-wide-requires
     returns
+    is-whole-requires
+    decode-planes-requires
+    returns-2
     decode-any-requires
-    returns-2)
+    returns-3)

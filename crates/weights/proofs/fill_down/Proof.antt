@@ -122,7 +122,7 @@ returns c =
     let l = c .before .before .loop in
     let e : l .t ≡ a .g .bh = omega arith in
     texels-end (a .g) (wholeOf (a .g) (a .wv .now)) (l .out) (l .o) (rw e at (l .inv .1)) (l .inv .2)
-    ∙ down-is (a .g) (c .before .before .before .before .before .before .before .before .pre .0) (c .before .before .before .before .before .before .before .before .pre .1) (c .before .before .before .before .before .before .before .before .pre .2) (a .wv .now)
+    ∙ down-is (a .g) (c .before .before .before .before .before .before .before .before .pre .0) (c .before .before .before .before .before .before .before .before .pre .2) (c .before .before .before .before .before .before .before .before .pre .1) (a .wv .now)
 
 pub fill-down-spec : {M : Type 1} → statement M
 fill-down-spec =

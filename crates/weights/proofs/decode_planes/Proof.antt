@@ -1,0 +1,26 @@
+-- The grid's weights, told apart, are the texels'.
+use mathlib.Core.Path.{_≡_, _∙_}
+use borrow.Author.Needs.{needs}
+use lib.ListN.{replicate}
+use Rattle.weights.specs.Fast.{each}
+use Rattle.weights.specs.Weights.{weightOf}
+use Rattle.weights.specs.Given.{countOf}
+use Rattle.weights.specs.DecodeLaws.{planes-are}
+use Rattle.weights.proofs.decode_planes.Statement.{statement}
+use Rattle.weights.proofs.decode_planes.Tie as tie
+
+unquantize-requires : tie.Need-unquantize-requires
+unquantize-requires c κs = search needs
+
+part-planes-requires : tie.Need-part-planes-requires
+part-planes-requires c κs = search needs
+
+returns : tie.Need-returns
+returns c =
+    let s = c .before .before .before .before .before in
+    let a = s .args in
+    let e : c .before .before .before .unquantize .last .0 ≡ each (weightOf (a .q)) (a .seq .now) (countOf (a .g)) (replicate 288 0) = rw (← s .pre .1) (c .before .before .before .unquantize .ensures) in
+    rw (s .pre .1) at (c .part-planes .ensures) ∙ planes-are (a .g) (a .q) (a .seq .now) _ (s .pre .0 .fits) (s .pre .0 .encoded) e (s .pre .2) (s .pre .3) (s .pre .4)
+
+pub decode-planes-spec : {M : Type 1} → statement M
+decode-planes-spec = tie.close (tie.spec unquantize-requires part-planes-requires returns)
