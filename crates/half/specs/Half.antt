@@ -53,15 +53,3 @@ voidByte s x t = cond (eqb x 31) (cond (eqb t 0) 255 0) (cond s 0 (min (whole x 
 
 abbrev pub voidByteOf : ℕ → ℕ
 voidByteOf h = voidByte (sign h) (field h) (digits h)
-
--- ---- any float
-unfoldable pub finite : Float → Bool
-finite nan = false
-finite (inf s) = false
-finite (fin s m e) = true
-
--- cut to a whole number and brought into a byte
-unfoldable pub cut : Float → ℕ
-cut nan = 255
-cut (inf s) = cond s 0 255
-cut (fin s m e) = cond s 0 (min (m * up e / down e) 255)

@@ -2,7 +2,7 @@
 ghost use mathlib.Core.Path.{_≡_};
 ghost use mathlib.Core.Bool.{false};
 ghost use Prim.Native.Nat.{_<_, _≤_, min, max};
-ghost use Rattle.half.specs.Half.{half, value, productOf, finite, cut, hdrByteOf, voidByteOf};
+ghost use Rattle.half.specs.Half.{half, value, productOf, hdrByteOf, voidByteOf};
 
 // The value of the half with no sign, the exponent's field x and the digits t.
 fn magnitude(x: u32, t: u32) -> f32
@@ -38,31 +38,6 @@ pub fn half_times_255(h: u16) -> f32
     fp16_ieee_to_fp32_value(h) * 255.0
 }
 
-fn is_finite(f: f32) -> bool
-    ensures { λ r. ⌜ r ≡ finite f ⌝ }
-{
-    if f < f32::from_bits(0x7f80_0000) {
-        f > f32::from_bits(0xff80_0000)
-    } else {
-        false
-    }
-}
-
-// The whole part of p, brought into a byte.
-fn low_byte(p: f32) -> u8
-    ensures { λ r. ⌜ r ≡ cut p ⌝ }
-{
-    if p < 256.0 {
-        if p > -1.0 {
-            std::num::truncating_f32_to_u64(p) as u8
-        } else {
-            0
-        }
-    } else {
-        255
-    }
-}
-
 fn between(low: u16, h: u16, high: u16) -> u16
     requires { ⌜ low ≤ high ⌝ }
     ensures { λ r. ⌜ r ≡ max low (min h high) ⌝ }
@@ -87,14 +62,13 @@ pub fn hdr_to_u8(h: u16) -> u8
     ((p as f64 * 8388608.0) as i32 as u32 / 8388608) as u8
 }
 
-// The byte of a void extent's half, as the original's `f32_to_u8` has it: 0 for a NaN, 255 for either infinity.
+// The byte of a void extent's half, as the original's `f32_to_u8` has it: the HDR rule up to plus infinity, then 0 for every NaN and every
+// negative number, but 255 for minus infinity.
 pub fn f16_to_u8(h: u16) -> u8
     ensures { λ r. ⌜ r ≡ voidByteOf h ⌝ }
 {
-    let p = half_times_255(h);
-    if is_finite(p) {
-        low_byte(p)
-    } else {
-        if p != p { 0 } else { 255 }
+    if h <= 0x7c00 {
+        return hdr_to_u8(h);
     }
+    if h == 0xfc00 { 255 } else { 0 }
 }
