@@ -3,88 +3,9 @@
 
 use crate::archive;
 use crate::run::{run, Options, Sample, Tally};
+use crate::shim::{Context, Findings};
 use model::{bits, Layout, FOOTPRINTS, HDR_MODES, TOPS};
-use std::ffi::{c_int, c_uint, c_void};
-use std::ptr::NonNull;
 use std::time::Instant;
-
-/// What astcenc finds in a block; as in shim.cpp.
-#[repr(C)]
-#[derive(Default, Debug, PartialEq, Eq)]
-struct Findings {
-    error: u32,
-    dual: u32,
-    channel: u32,
-    partitions: u32,
-    partition_number: u32,
-    modes: [u32; 4],
-    endpoint_levels: u32,
-    weight_levels: u32,
-    width: u32,
-    height: u32,
-}
-
-extern "C" {
-    fn shim_context(bw: c_uint, bh: c_uint, hdr: c_int) -> *mut c_void;
-    fn shim_free(context: *mut c_void);
-    fn shim_findings(context: *mut c_void, block: *const u8, findings: *mut Findings) -> c_int;
-    fn shim_paint(
-        context: *mut c_void,
-        block: *const u8,
-        bw: c_uint,
-        bh: c_uint,
-        bytes: *mut u8,
-    ) -> c_int;
-}
-
-/// astcenc's state for one footprint and profile, of one thread.
-struct Context {
-    state: NonNull<c_void>,
-    bw: usize,
-    bh: usize,
-}
-
-impl Context {
-    fn new((bw, bh): (usize, usize), hdr: bool) -> Self {
-        // SAFETY: the function takes any numbers.
-        let state = unsafe { shim_context(bw as c_uint, bh as c_uint, hdr.into()) };
-        let state = NonNull::new(state).expect("astcenc takes every listed footprint");
-        Context { state, bw, bh }
-    }
-
-    fn findings(&mut self, block: &[u8; 16]) -> Findings {
-        let mut findings = Findings::default();
-        // SAFETY: the state is live, the block has sixteen bytes, and the findings are the shim's.
-        let status = unsafe { shim_findings(self.state.as_ptr(), block.as_ptr(), &mut findings) };
-        assert_eq!(status, 0, "astcenc answers for every block");
-        findings
-    }
-
-    /// Red, green, blue and alpha of each texel.
-    fn paint(&mut self, block: &[u8; 16]) -> Vec<u8> {
-        let mut bytes = vec![0; 4 * self.bw * self.bh];
-        let (bw, bh) = (self.bw as c_uint, self.bh as c_uint);
-        // SAFETY: the state is live, the block has sixteen bytes, and there are four bytes for each texel.
-        let status = unsafe {
-            shim_paint(
-                self.state.as_ptr(),
-                block.as_ptr(),
-                bw,
-                bh,
-                bytes.as_mut_ptr(),
-            )
-        };
-        assert_eq!(status, 0, "astcenc paints every block");
-        bytes
-    }
-}
-
-impl Drop for Context {
-    fn drop(&mut self) {
-        // SAFETY: the state is live until here.
-        unsafe { shim_free(self.state.as_ptr()) }
-    }
-}
 
 /// The contexts of one footprint: one that knows HDR modes, for parameters, and one for LDR words.
 struct Judge {
@@ -153,7 +74,7 @@ fn judge(judges: &mut [Judge], sample: &Sample, tally: &mut Tally) -> Result<(),
         return Ok(());
     }
     let mut exact = true;
-    for (i, theirs) in judge.ldr.paint(block).chunks(4).enumerate() {
+    for (i, theirs) in judge.ldr.paint_block(block).chunks(4).enumerate() {
         let [blue, green, red, alpha] = words[i].to_le_bytes();
         let ours = [red, green, blue, alpha];
         if ours.iter().zip(theirs).any(|(a, b)| a.abs_diff(*b) > 1) {

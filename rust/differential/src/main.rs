@@ -4,7 +4,9 @@
 //! compares legality, parameters and LDR words with Arm's astcenc, where its library is installed; `differential images` compares
 //! whole images, images in steps and refusals with the original and with document 01's rules. They take `--seed N` and `--count N`
 //! (of blocks beside those of all first eleven bits, or of images), those over blocks also `--threads N`; they print what they
-//! compared, and end with status 1 at a difference. `differential speed` times the archive and the original on the same images.
+//! compared, and end with status 1 at a difference. `differential speed` times the archive, the original and astcenc on the same
+//! images, and says which of the marks that are set for it are met; it takes the names of its parts, where not all are wanted, and
+//! `--runs N`.
 
 mod archive;
 #[cfg(astcenc)]
@@ -13,13 +15,15 @@ mod blocks;
 mod images;
 mod marks;
 mod run;
+#[cfg(astcenc)]
+mod shim;
 mod speed;
 
 use run::Options;
 use std::process::ExitCode;
 
 const USAGE: &str = "usage: differential blocks|astcenc [--seed N] [--count N] [--threads N], or differential images [--seed N] \
-[--count N], or differential speed; N is a number, of threads at least 1";
+[--count N], or differential speed [pictures] [hdr] [kinds] [--runs N]; N is a number, of threads and runs at least 1";
 
 /// The options of a command over blocks, or of the one over images, which has one thread.
 fn options(words: &[String], images: bool) -> Option<Options> {
@@ -57,7 +61,7 @@ fn obey(words: &[String]) -> Option<bool> {
         "blocks" => blocks::compare(&options(rest, false)?),
         "astcenc" => compare_with_astcenc(&options(rest, false)?),
         "images" => images::compare(&options(rest, true)?),
-        "speed" if rest.is_empty() => speed::measure(),
+        "speed" => speed::measure(rest)?,
         _ => return None,
     })
 }

@@ -1,7 +1,10 @@
-// astcenc's library behind plain C functions: what it finds in a block, and the bytes that it paints.
+// astcenc's library behind plain C functions: what it finds in a block, the pixels that it paints, and the blocks that it encodes.
 
 #include <astcenc.h>
+#include <cstddef>
 #include <cstdint>
+
+static const astcenc_swizzle as_it_is = {ASTCENC_SWZ_R, ASTCENC_SWZ_G, ASTCENC_SWZ_B, ASTCENC_SWZ_A};
 
 struct Findings {
     uint32_t error;
@@ -65,14 +68,32 @@ int shim_findings(void *context, const uint8_t *block, Findings *findings) {
     return 0;
 }
 
-// Paints one block as red, green, blue, alpha bytes; 0 if it was painted.
-int shim_paint(void *context, const uint8_t *block, unsigned int bw, unsigned int bh, uint8_t *bytes) {
+// Paints an image of blocks as red, green, blue, alpha bytes; 0 if it was painted.
+int shim_paint(void *context, const uint8_t *blocks, size_t len, unsigned int width, unsigned int height, uint8_t *bytes) {
     astcenc_context *c = static_cast<astcenc_context *>(context);
     void *slice = bytes;
-    astcenc_image image = {bw, bh, 1, ASTCENC_TYPE_U8, &slice};
-    astcenc_swizzle swizzle = {ASTCENC_SWZ_R, ASTCENC_SWZ_G, ASTCENC_SWZ_B, ASTCENC_SWZ_A};
-    astcenc_error error = astcenc_decompress_image(c, block, 16, &image, &swizzle, 0);
+    astcenc_image image = {width, height, 1, ASTCENC_TYPE_U8, &slice};
+    astcenc_error error = astcenc_decompress_image(c, blocks, len, &image, &as_it_is, 0);
     astcenc_decompress_reset(c);
+    return error != ASTCENC_SUCCESS;
+}
+
+// Encodes an image of red, green, blue, alpha at medium quality, from bytes as LDR, or from floats as HDR with an LDR alpha; 0 if it was
+// encoded.
+int shim_encode(unsigned int bw, unsigned int bh, int hdr, const void *pixels, unsigned int width, unsigned int height,
+                uint8_t *blocks, size_t len) {
+    astcenc_config config;
+    astcenc_context *context = nullptr;
+    astcenc_profile profile = hdr ? ASTCENC_PRF_HDR_RGB_LDR_A : ASTCENC_PRF_LDR;
+    if (astcenc_config_init(profile, bw, bh, 1, ASTCENC_PRE_MEDIUM, 0, &config) != ASTCENC_SUCCESS ||
+        astcenc_context_alloc(&config, 1, &context) != ASTCENC_SUCCESS) {
+        return 1;
+    }
+    // an image to be encoded is only read
+    void *slice = const_cast<void *>(pixels);
+    astcenc_image image = {width, height, 1, hdr ? ASTCENC_TYPE_F32 : ASTCENC_TYPE_U8, &slice};
+    astcenc_error error = astcenc_compress_image(context, &image, &as_it_is, blocks, len, 0);
+    astcenc_context_free(context);
     return error != ASTCENC_SUCCESS;
 }
 

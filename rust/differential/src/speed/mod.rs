@@ -1,0 +1,94 @@
+//! How fast the archive paints images, beside the original and, where it was there to build with, astcenc's library on one thread:
+//! all in one process, on the same images, by processor time, best of some runs.
+
+mod drawing;
+mod grid;
+mod kinds;
+mod pictures;
+mod race;
+mod rival;
+mod verdict;
+
+use verdict::Mark;
+
+/// How often each decoder paints an image, where no other number is asked for.
+const RUNS: usize = 21;
+
+/// The parts of a measurement, in the order of a whole one.
+#[derive(Clone, Copy, PartialEq, Eq)]
+enum Part {
+    Pictures,
+    Hdr,
+    Kinds,
+}
+
+impl Part {
+    const ALL: [Part; 3] = [Part::Pictures, Part::Hdr, Part::Kinds];
+
+    fn name(self) -> &'static str {
+        match self {
+            Part::Pictures => "pictures",
+            Part::Hdr => "hdr",
+            Part::Kinds => "kinds",
+        }
+    }
+
+    fn measure(self, runs: usize) -> Result<Vec<Mark>, String> {
+        match self {
+            Part::Pictures => pictures::LDR.measure(runs),
+            Part::Hdr => pictures::HDR.measure(runs),
+            Part::Kinds => grid::measure(runs),
+        }
+    }
+}
+
+/// What is to be measured, and in how many runs.
+struct Wanted {
+    parts: Vec<Part>,
+    runs: usize,
+}
+
+impl Wanted {
+    /// As the words say, if they are known ones.
+    fn of(words: &[String]) -> Option<Self> {
+        let mut wanted = Wanted {
+            parts: Vec::new(),
+            runs: RUNS,
+        };
+        let mut words = words.iter();
+        while let Some(word) = words.next() {
+            if word == "--runs" {
+                wanted.runs = words.next()?.parse().ok().filter(|&runs| runs > 0)?;
+            } else {
+                let part = Part::ALL.into_iter().find(|part| part.name() == word)?;
+                wanted.parts.push(part);
+            }
+        }
+        if wanted.parts.is_empty() {
+            wanted.parts = Part::ALL.to_vec();
+        }
+        Some(wanted)
+    }
+}
+
+/// Measures what the words ask for; whether all images were painted alike, or nothing if the words are not known. A mark that is
+/// missed is only said: times are never sure.
+pub fn measure(words: &[String]) -> Option<bool> {
+    let wanted = Wanted::of(words)?;
+    println!(
+        "one process, one thread, processor time, best of {} runs that the decoders take in turn",
+        wanted.runs
+    );
+    let mut marks = Vec::new();
+    for part in wanted.parts {
+        match part.measure(wanted.runs) {
+            Ok(more) => marks.extend(more),
+            Err(difference) => {
+                println!("difference: {difference}");
+                return Some(false);
+            }
+        }
+    }
+    verdict::print(&marks);
+    Some(true)
+}
