@@ -1,12 +1,16 @@
 //! How fast the archive paints images, beside the original and, where it was there to build with, astcenc's library on one thread:
-//! all in one process, on the same images, by processor time, best of some runs.
+//! all in one process, on the same images, by processor time, best of some runs. Also how the time grows with the blocks, what a second
+//! thread gains, and how much stack the functions use.
 
 mod drawing;
 mod grid;
 mod kinds;
+mod linear;
 mod pictures;
 mod race;
 mod rival;
+mod stack;
+mod threads;
 mod verdict;
 
 use verdict::Mark;
@@ -20,16 +24,29 @@ enum Part {
     Pictures,
     Hdr,
     Kinds,
+    Linear,
+    Threads,
+    Stack,
 }
 
 impl Part {
-    const ALL: [Part; 3] = [Part::Pictures, Part::Hdr, Part::Kinds];
+    const ALL: [Part; 6] = [
+        Part::Pictures,
+        Part::Hdr,
+        Part::Kinds,
+        Part::Linear,
+        Part::Threads,
+        Part::Stack,
+    ];
 
     fn name(self) -> &'static str {
         match self {
             Part::Pictures => "pictures",
             Part::Hdr => "hdr",
             Part::Kinds => "kinds",
+            Part::Linear => "linear",
+            Part::Threads => "threads",
+            Part::Stack => "stack",
         }
     }
 
@@ -38,6 +55,9 @@ impl Part {
             Part::Pictures => pictures::LDR.measure(runs),
             Part::Hdr => pictures::HDR.measure(runs),
             Part::Kinds => grid::measure(runs),
+            Part::Linear => linear::measure(),
+            Part::Threads => threads::measure(runs).map(|()| Vec::new()),
+            Part::Stack => Ok(stack::measure()),
         }
     }
 }
@@ -75,10 +95,6 @@ impl Wanted {
 /// missed is only said: times are never sure.
 pub fn measure(words: &[String]) -> Option<bool> {
     let wanted = Wanted::of(words)?;
-    println!(
-        "one process, one thread, processor time, best of {} runs that the decoders take in turn",
-        wanted.runs
-    );
     let mut marks = Vec::new();
     for part in wanted.parts {
         match part.measure(wanted.runs) {

@@ -128,7 +128,7 @@ impl Picture {
         let (mut races, mix) = self.races();
         let all = self.rates(&mut races, runs)?;
         println!(
-            "\n{name}, {}x{}, encoded by astcenc at medium quality; millions of texels a second",
+            "\n{name}, {}x{}, encoded by astcenc at medium quality; millions of texels a second, one thread, best of {runs} runs",
             self.width, self.height
         );
         println!("block     ours  original  astcenc  ours/original  ours/astcenc");
@@ -140,7 +140,7 @@ impl Picture {
         print_ratios("geometric mean", mean(original()), mean(astcenc()));
         print_ratios("least", least(original()), least(astcenc()));
         mix.print();
-        let mark = |what, ratio, wanted| Mark::new(format!("{name}, {what}"), ratio, wanted);
+        let mark = |what, ratio, wanted| Mark::at_least(format!("{name}, {what}"), ratio, wanted);
         let mut marks = match self.profile {
             Profile::Ldr => vec![
                 mark("ours/original, geometric mean", mean(original()), 4.0),

@@ -5,6 +5,11 @@ pub fn least(ratios: impl IntoIterator<Item = f64>) -> f64 {
     ratios.into_iter().fold(f64::INFINITY, f64::min)
 }
 
+/// The largest of some ratios.
+pub fn most(ratios: impl IntoIterator<Item = f64>) -> f64 {
+    ratios.into_iter().fold(f64::NEG_INFINITY, f64::max)
+}
+
 /// The geometric mean of some ratios.
 pub fn mean(ratios: impl IntoIterator<Item = f64>) -> f64 {
     let (mut logs, mut count) = (0.0, 0.0);
@@ -15,19 +20,40 @@ pub fn mean(ratios: impl IntoIterator<Item = f64>) -> f64 {
     (logs / count).exp()
 }
 
-/// A ratio that was measured, and what it should be at the least.
+/// A number that was measured, and what it should be.
 pub struct Mark {
     what: String,
-    ratio: f64,
-    wanted: f64,
+    number: f64,
+    wanted: Wanted,
+}
+
+enum Wanted {
+    AtLeast(f64),
+    AtMost(f64),
 }
 
 impl Mark {
-    pub fn new(what: impl Into<String>, ratio: f64, wanted: f64) -> Self {
+    pub fn at_least(what: impl Into<String>, number: f64, wanted: f64) -> Self {
         Mark {
             what: what.into(),
-            ratio,
-            wanted,
+            number,
+            wanted: Wanted::AtLeast(wanted),
+        }
+    }
+
+    pub fn at_most(what: impl Into<String>, number: f64, wanted: f64) -> Self {
+        Mark {
+            what: what.into(),
+            number,
+            wanted: Wanted::AtMost(wanted),
+        }
+    }
+
+    /// Whether it is met, with the words for what was wanted.
+    fn verdict(&self) -> (bool, String) {
+        match self.wanted {
+            Wanted::AtLeast(wanted) => (self.number >= wanted, format!("at least {wanted}")),
+            Wanted::AtMost(wanted) => (self.number <= wanted, format!("at most {wanted}")),
         }
     }
 }
@@ -39,15 +65,11 @@ pub fn print(marks: &[Mark]) {
     }
     println!("\nmarks");
     for mark in marks {
-        let verdict = if mark.ratio >= mark.wanted {
-            "mark met"
-        } else {
-            "mark missed"
-        };
-        println!(
-            "{}: {:.2}, at least {:.1}: {verdict}",
-            mark.what, mark.ratio, mark.wanted
-        );
+        let (met, wanted) = mark.verdict();
+        let word = if met { "met" } else { "missed" };
+        let number = format!("{:.2}", mark.number);
+        let number = number.trim_end_matches(".00");
+        println!("{}: {number}, {wanted}: mark {word}", mark.what);
     }
 }
 

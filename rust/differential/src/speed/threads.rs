@@ -1,0 +1,71 @@
+//! What a second thread gains.
+
+use super::kinds::{Kind, Source};
+use crate::archive;
+use astc::{decode_image_by_threads, Answer, Footprint};
+use model::blocks::Legal;
+use model::Shape;
+use std::time::{Duration, Instant};
+
+const FOOTPRINTS: [(usize, usize); 3] = [(4, 4), (8, 8), (12, 12)];
+
+const SIDE: usize = 2048;
+
+/// The time of day that some work takes: the processor's would add up over threads.
+fn taken(work: impl FnOnce()) -> Duration {
+    let start = Instant::now();
+    work();
+    start.elapsed()
+}
+
+/// The best times for an image painted at once, by one thread, and by two.
+fn times((bw, bh): (usize, usize), runs: usize) -> Result<[Duration; 3], String> {
+    let shape = Shape {
+        width: SIDE,
+        height: SIDE,
+        bw,
+        bh,
+    };
+    let legal = Legal::at(bw, bh);
+    let data = Source::new(Kind::Mixed, &legal).data(shape.blocks());
+    let footprint = Footprint::new(bw, bh).ok_or("the footprint is not listed")?;
+    let mut whole = vec![1; shape.pixels()];
+    let mut parts = vec![1; shape.pixels()];
+    let mut best = [Duration::MAX; 3];
+    for _ in 0..runs {
+        let mut number = 0;
+        let time = taken(|| number = archive::decode_image(&data, shape, &mut whole));
+        best[0] = time.min(best[0]);
+        for threads in [1, 2] {
+            let mut answer = Answer::Legal;
+            let time = taken(|| {
+                answer = decode_image_by_threads(&data, SIDE, SIDE, footprint, &mut parts, threads);
+            });
+            best[threads] = time.min(best[threads]);
+            if number != 0 || answer != Answer::Legal || parts != whole {
+                return Err(format!(
+                    "{bw}x{bh} by {threads} threads is not the image as a whole"
+                ));
+            }
+        }
+    }
+    Ok(best)
+}
+
+/// Times images by one thread and by two, in millions of texels a second.
+pub fn measure(runs: usize) -> Result<(), String> {
+    println!(
+        "\nmixed blocks, {SIDE}x{SIDE}, on two threads; millions of texels a second by the time of day, best of {runs} runs"
+    );
+    println!("block   at once   1 thread   2 threads   2 threads/at once");
+    for (bw, bh) in FOOTPRINTS {
+        let [whole, one, two] =
+            times((bw, bh), runs)?.map(|t| (SIDE * SIDE) as f64 / t.as_secs_f64() / 1e6);
+        println!(
+            "{:<7} {whole:>7.1} {one:>10.1} {two:>11.1} {:>19.2}",
+            format!("{bw}x{bh}"),
+            two / whole
+        );
+    }
+    Ok(())
+}
