@@ -72,7 +72,7 @@ impl At {
 fn rates(runs: usize) -> Result<Vec<Row>, String> {
     let mut all = FOOTPRINTS.map(At::new);
     let mut canvas = Canvas::new(SIDE * SIDE);
-    for _ in 0..=runs {
+    for _ in 0..runs {
         for at in &mut all {
             at.turn(&mut canvas)?;
         }

@@ -107,7 +107,7 @@ impl Picture {
     fn rates(&self, races: &mut [Race], runs: usize) -> Result<Vec<Rates>, String> {
         let mut rivals = FOOTPRINTS.map(|f| Rival::new(f, self.profile));
         let mut canvas = Canvas::new(self.width * self.height);
-        for _ in 0..=runs {
+        for _ in 0..runs {
             for ((race, rival), (bw, bh)) in races.iter_mut().zip(&mut rivals).zip(FOOTPRINTS) {
                 race.turn(&mut canvas, rival.as_mut())
                     .map_err(|difference| format!("{} at {bw}x{bh}: {difference}", self.name))?;

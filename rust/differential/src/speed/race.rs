@@ -70,47 +70,38 @@ fn bands(data: &[u8], shape: Shape, rows: usize) -> impl Iterator<Item = Band<'_
     })
 }
 
+/// One of those that are timed.
+#[derive(Clone, Copy, PartialEq, Eq)]
+enum Decoder {
+    Ours,
+    Original,
+    Astcenc,
+}
+
 /// One decoder's best times for the bands of an image.
-///
-/// All decoders are timed in pieces of about the same length. On a busy machine the best time of a short piece is nearer to that on
-/// a quiet one than a long piece's, so that whole images would flatter the faster decoder.
-#[derive(Default)]
 struct Best {
+    decoder: Decoder,
     /// The rows of blocks of a band.
     rows: usize,
     times: Vec<Duration>,
 }
 
 impl Best {
-    /// Paints the image once. The first time only finds how large the bands are.
-    fn turn(
-        &mut self,
-        data: &[u8],
-        shape: Shape,
-        mut paint: impl FnMut(Band) -> Result<(), String>,
-    ) -> Result<(), String> {
-        let mut outcome = Ok(());
-        if self.times.is_empty() {
-            let all = shape.height.div_ceil(shape.bh);
-            let whole = bands(data, shape, all).next().ok_or("there is no block")?;
-            let time = timed(|| outcome = paint(whole)).max(PIECE);
-            let part = PIECE.as_secs_f64() / time.as_secs_f64();
-            self.rows = (all as f64 * part).ceil() as usize;
-            self.times = vec![Duration::MAX; all.div_ceil(self.rows)];
-            return outcome;
+    /// No times yet, with bands that each take about as long as a piece, when the whole image takes so long.
+    fn new(decoder: Decoder, shape: Shape, whole: Duration) -> Self {
+        let all = shape.height.div_ceil(shape.bh);
+        let part = PIECE.as_secs_f64() / whole.max(PIECE).as_secs_f64();
+        let rows = (all as f64 * part).ceil() as usize;
+        Best {
+            decoder,
+            rows,
+            times: vec![Duration::MAX; all.div_ceil(rows)],
         }
-        for (best, band) in self.times.iter_mut().zip(bands(data, shape, self.rows)) {
-            let time = timed(|| outcome = paint(band));
-            *best = time.min(*best);
-            outcome.clone()?;
-        }
-        Ok(())
     }
 
-    /// Millions of texels a second, if the decoder had a turn.
-    fn rate(&self, shape: Shape) -> Option<f64> {
-        let time = self.times.iter().sum::<Duration>().as_secs_f64();
-        (time > 0.0).then(|| shape.pixels() as f64 / time / 1e6)
+    /// Millions of texels a second.
+    fn rate(&self, shape: Shape) -> f64 {
+        shape.pixels() as f64 / self.times.iter().sum::<Duration>().as_secs_f64() / 1e6
     }
 }
 
@@ -129,15 +120,64 @@ impl Canvas {
             astcenc: vec![0; 4 * pixels],
         }
     }
+
+    /// Lets a decoder paint a band; the processor's time that it takes.
+    fn paint(
+        &mut self,
+        decoder: Decoder,
+        band: Band,
+        rival: Option<&mut Rival>,
+    ) -> Result<Duration, String> {
+        let (data, shape, pixels) = (black_box(band.data), band.shape, band.pixels);
+        let (width, height, bw, bh) = (shape.width, shape.height, shape.bw, shape.bh);
+        match (decoder, rival) {
+            (Decoder::Ours, _) => {
+                let words = &mut self.ours[pixels];
+                let mut answer = 0;
+                let time = timed(|| answer = archive::decode_image(data, shape, words));
+                match answer {
+                    0 => Ok(time),
+                    _ => Err(format!("our answer is {answer}")),
+                }
+            }
+            (Decoder::Original, _) => {
+                let words = &mut self.original[pixels];
+                let mut outcome = Ok(());
+                let time = timed(|| outcome = decode_astc(data, width, height, bw, bh, words));
+                outcome.map(|()| time).map_err(String::from)
+            }
+            (Decoder::Astcenc, Some(rival)) => {
+                let bytes = &mut self.astcenc[4 * pixels.start..4 * pixels.end];
+                Ok(timed(|| rival.paint(data, shape, bytes)))
+            }
+            (Decoder::Astcenc, None) => Err("astcenc is not there".into()),
+        }
+    }
+
+    /// What is not alike in the painted images, if something is not.
+    ///
+    /// Ours and the original's words must be the same. astcenc rounds to eight bits in its own way, so that its bytes are held to
+    /// ours to within 1, and those of HDR blocks, of which it reads some in another way, are not compared.
+    fn compare(&self, rival: Option<&Rival>) -> Result<(), String> {
+        if self.ours != self.original {
+            return Err("our image is not the original's".into());
+        }
+        if rival.is_some_and(|rival| !rival.is_like(&self.astcenc, &self.ours)) {
+            return Err("our image is not astcenc's to within 1".into());
+        }
+        Ok(())
+    }
 }
 
 /// An image, and the decoders' best times for it so far.
+///
+/// The decoders are timed in pieces of about the same length, and those of one turn are done side by side, from the first rows of the
+/// image to the last. On a busy machine a short piece has a better best time than a long one, and times when it is less busy come and
+/// go: whole images, one decoder after another, would flatter the faster decoder, or any.
 pub struct Race {
     data: Vec<u8>,
     shape: Shape,
-    ours: Best,
-    original: Best,
-    astcenc: Best,
+    best: Vec<Best>,
 }
 
 impl Race {
@@ -145,55 +185,64 @@ impl Race {
         Race {
             data,
             shape,
-            ours: Best::default(),
-            original: Best::default(),
-            astcenc: Best::default(),
+            best: Vec::new(),
         }
+    }
+
+    /// The decoders paint the image for the first time, which only finds how large their pieces are.
+    fn warm_up(
+        &mut self,
+        canvas: &mut Canvas,
+        mut rival: Option<&mut Rival>,
+    ) -> Result<(), String> {
+        let rows = self.shape.height.div_ceil(self.shape.bh);
+        let decoders = [Decoder::Ours, Decoder::Original, Decoder::Astcenc];
+        let there = if rival.is_some() { 3 } else { 2 };
+        for decoder in decoders.into_iter().take(there) {
+            let whole = bands(&self.data, self.shape, rows).next();
+            let whole = whole.ok_or("the image has no blocks")?;
+            let time = canvas.paint(decoder, whole, rival.as_deref_mut())?;
+            self.best.push(Best::new(decoder, self.shape, time));
+        }
+        Ok(())
     }
 
     /// Each decoder paints the image once; what differs, if something does.
-    ///
-    /// Ours and the original's words must be the same. astcenc rounds to eight bits in its own way, so that its bytes are held to
-    /// ours to within 1, and those of HDR blocks, of which it reads some in another way, are not compared.
-    pub fn turn(&mut self, canvas: &mut Canvas, rival: Option<&mut Rival>) -> Result<(), String> {
-        let (data, shape) = (black_box(self.data.as_slice()), self.shape);
-        self.ours.turn(data, shape, |band| {
-            let words = &mut canvas.ours[band.pixels];
-            match archive::decode_image(band.data, band.shape, words) {
-                0 => Ok(()),
-                answer => Err(format!("the answer is {answer}")),
+    pub fn turn(
+        &mut self,
+        canvas: &mut Canvas,
+        mut rival: Option<&mut Rival>,
+    ) -> Result<(), String> {
+        if self.best.is_empty() {
+            self.warm_up(canvas, rival.as_deref_mut())?;
+        }
+        let mut pieces = Vec::new();
+        for best in &mut self.best {
+            let bands = bands(&self.data, self.shape, best.rows);
+            for (time, band) in best.times.iter_mut().zip(bands) {
+                pieces.push((best.decoder, time, band));
             }
-        })?;
-        self.original.turn(data, shape, |band| {
-            let words = &mut canvas.original[band.pixels];
-            let (width, height) = (shape.width, band.shape.height);
-            decode_astc(band.data, width, height, shape.bw, shape.bh, words).map_err(String::from)
-        })?;
-        if canvas.ours != canvas.original {
-            return Err("our image is not the original's".into());
         }
-        let Some(rival) = rival else {
-            return Ok(());
-        };
-        self.astcenc.turn(data, shape, |band| {
-            let bytes = &mut canvas.astcenc[4 * band.pixels.start..4 * band.pixels.end];
-            rival.paint(band.data, band.shape, bytes);
-            Ok(())
-        })?;
-        if rival.is_like(&canvas.astcenc, &canvas.ours) {
-            Ok(())
-        } else {
-            Err("our image is not astcenc's to within 1".into())
+        pieces.sort_by_key(|(_, _, band)| band.pixels.start + band.pixels.end);
+        for (decoder, best, band) in pieces {
+            let time = canvas.paint(decoder, band, rival.as_deref_mut())?;
+            *best = time.min(*best);
         }
+        // in the next turn another is the first to read the data
+        self.best.rotate_left(1);
+        canvas.compare(rival.as_deref())
     }
 
-    /// The rates so far, after two turns or more.
+    /// The rates so far, after a turn or more.
     pub fn rates(&self) -> Rates {
-        let rate = |best: &Best| best.rate(self.shape);
+        let rate = |decoder| {
+            let best = self.best.iter().find(|best| best.decoder == decoder);
+            best.map(|best| best.rate(self.shape))
+        };
         Rates {
-            ours: rate(&self.ours).expect("ours had its turns"),
-            original: rate(&self.original).expect("the original had its turns"),
-            astcenc: rate(&self.astcenc),
+            ours: rate(Decoder::Ours).expect("ours had its turn"),
+            original: rate(Decoder::Original).expect("the original had its turn"),
+            astcenc: rate(Decoder::Astcenc),
         }
     }
 }
