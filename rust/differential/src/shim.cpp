@@ -78,8 +78,8 @@ int shim_paint(void *context, const uint8_t *blocks, size_t len, unsigned int wi
     return error != ASTCENC_SUCCESS;
 }
 
-// Encodes an image of red, green, blue, alpha at medium quality, from bytes as LDR, or from floats as HDR with an LDR alpha; 0 if it was
-// encoded.
+// Encodes an image of red, green, blue, alpha at medium quality, from bytes as LDR, or from floats as HDR with an LDR alpha; 0 if
+// it was encoded.
 int shim_encode(unsigned int bw, unsigned int bh, int hdr, const void *pixels, unsigned int width, unsigned int height,
                 uint8_t *blocks, size_t len) {
     astcenc_config config;

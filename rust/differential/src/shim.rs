@@ -78,7 +78,7 @@ impl Context {
     /// Paints red, green, blue and alpha of each pixel of an image.
     pub fn paint(&mut self, data: &[u8], (width, height): (usize, usize), bytes: &mut [u8]) {
         assert_eq!(bytes.len(), 4 * width * height, "a byte for each channel");
-        // SAFETY: the state is live, astcenc refuses data that are too short for the image, and there are four bytes for each pixel.
+        // SAFETY: the state is live, astcenc refuses data too short for the image, and there are four bytes for each pixel.
         let status = unsafe {
             shim_paint(
                 self.state.as_ptr(),

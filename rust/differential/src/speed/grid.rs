@@ -68,7 +68,7 @@ impl At {
     }
 }
 
-/// The rates of all kinds at all footprints. Each run goes through all of them, so that a time when the machine is busy falls on all.
+/// The rates of all kinds at all footprints. Each run goes through all of them: a time when the machine is busy falls on all.
 fn rates(runs: usize) -> Result<Vec<Row>, String> {
     let mut all = FOOTPRINTS.map(At::new);
     let mut canvas = Canvas::new(SIDE * SIDE);
@@ -130,10 +130,10 @@ impl Table {
             self.print_numbers(&format!("{bw}x{bh}"), line.iter().copied());
         }
         if self.ratio {
-            let column = |i| lines.iter().map(move |line| line[i]);
-            let kinds = 0..Kind::ALL.len();
-            self.print_numbers("mean", kinds.clone().map(|i| mean(column(i))));
-            self.print_numbers("least", kinds.map(|i| least(column(i))));
+            let column = |i: usize| lines.iter().map(|line| line[i]).collect::<Vec<_>>();
+            let columns: Vec<_> = (0..Kind::ALL.len()).map(column).collect();
+            self.print_numbers("mean", columns.iter().map(|column| mean(column)));
+            self.print_numbers("least", columns.iter().map(|column| least(column)));
         }
     }
 
@@ -151,17 +151,18 @@ impl Table {
 
 /// The least ratio of each kind to the original, and of all kinds to astcenc.
 fn marks(rows: &[Row]) -> Vec<Mark> {
-    let mark =
-        |what: &str, ratio| Mark::at_least(format!("seeded blocks, {what}, least"), ratio, 1.0);
+    let mark = |what: &str, ratios: &[f64]| {
+        Mark::at_least(format!("seeded blocks, {what}, least"), least(ratios), 1.0)
+    };
     let mut marks = Vec::new();
     for (i, kind) in Kind::ALL.iter().enumerate() {
-        let ratio = least(rows.iter().map(|row| row[i].over_original()));
-        marks.push(mark(&format!("{}, ours/original", kind.name()), ratio));
+        let ratios: Vec<_> = rows.iter().map(|row| row[i].over_original()).collect();
+        marks.push(mark(&format!("{}, ours/original", kind.name()), &ratios));
     }
     if THERE {
         let all = rows.iter().flatten();
-        let ratio = least(all.filter_map(|rates| rates.over_astcenc()));
-        marks.push(mark("ours/astcenc", ratio));
+        let ratios: Vec<_> = all.filter_map(|rates| rates.over_astcenc()).collect();
+        marks.push(mark("ours/astcenc", &ratios));
     }
     marks
 }

@@ -94,7 +94,7 @@ pub fn measure() -> Result<Vec<Mark>, String> {
     }
     Ok(vec![Mark::at_most(
         "a block's time in an image of 64 times the blocks, most",
-        most(ratios),
+        most(&ratios),
         MOST,
     )])
 }

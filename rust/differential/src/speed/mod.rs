@@ -1,6 +1,6 @@
 //! How fast the archive paints images, beside the original and, where it was there to build with, astcenc's library on one thread:
-//! all in one process, on the same images, by processor time, best of some runs. Also how the time grows with the blocks, what a second
-//! thread gains, and how much stack the functions use.
+//! all in one process, on the same images, by processor time, best of some runs. Also how the time grows with the blocks, what a
+//! second thread gains, and how much stack the functions use.
 
 mod drawing;
 mod grid;

@@ -4,7 +4,7 @@ use super::drawing;
 use super::race::{Canvas, Race, Rates};
 use super::rival::{self, Profile, Rival};
 use super::verdict::{least, mean, Mark};
-use model::{answer, Layout, Shape, FOOTPRINTS};
+use model::{answer, Layout, Shape, FOOTPRINTS, HDR_MODES};
 
 /// What the blocks of a picture are.
 #[derive(Default)]
@@ -12,6 +12,8 @@ struct Mix {
     all: usize,
     void: usize,
     dual: usize,
+    /// With an HDR mode in some partition.
+    hdr: usize,
     /// Of one partition, of two, three and four.
     parts: [usize; 4],
 }
@@ -27,6 +29,8 @@ impl Mix {
             let layout = Layout::of(block);
             self.parts[layout.parts - 1] += 1;
             self.dual += usize::from(layout.mode.dual);
+            let modes = layout.modes(block);
+            self.hdr += usize::from(modes.iter().any(|mode| HDR_MODES.contains(mode)));
         }
     }
 
@@ -35,9 +39,10 @@ impl Mix {
         let [one, two, three, four] = self.parts.map(share);
         println!(
             "blocks of one partition {one:.1} %, two {two:.1} %, three {three:.1} %, four {four:.1} %, void {:.1} %; of two planes \
-             {:.1} %",
+             {:.1} %, HDR {:.1} %",
             share(self.void),
-            share(self.dual)
+            share(self.dual),
+            share(self.hdr)
         );
     }
 }
@@ -55,6 +60,13 @@ fn print_rates(name: &str, rates: Rates) {
 
 fn print_ratios(name: &str, original: f64, astcenc: f64) {
     println!("{name:<32} {original:>14.2} {astcenc:>13.2}");
+}
+
+/// The ratios to the original, and to astcenc.
+fn ratios(all: &[Rates]) -> (Vec<f64>, Vec<f64>) {
+    all.iter()
+        .filter_map(|rates| Some((rates.over_original(), rates.over_astcenc()?)))
+        .unzip()
 }
 
 /// A drawing, and how it is encoded.
@@ -116,40 +128,47 @@ impl Picture {
         Ok(races.iter().map(Race::rates).collect())
     }
 
+    fn print(&self, all: &[Rates], runs: usize) {
+        println!(
+            "\n{}, {}x{}, encoded by astcenc at medium quality; millions of texels a second, one thread, best of {runs} runs",
+            self.name, self.width, self.height
+        );
+        println!("block     ours  original  astcenc  ours/original  ours/astcenc");
+        for ((bw, bh), &rates) in FOOTPRINTS.iter().zip(all) {
+            print_rates(&format!("{bw}x{bh}"), rates);
+        }
+        let (original, astcenc) = ratios(all);
+        print_ratios("geometric mean", mean(&original), mean(&astcenc));
+        print_ratios("least", least(&original), least(&astcenc));
+    }
+
+    fn marks(&self, all: &[Rates]) -> Vec<Mark> {
+        let mark =
+            |what, ratio, wanted| Mark::at_least(format!("{}, {what}", self.name), ratio, wanted);
+        let (original, astcenc) = ratios(all);
+        let of_all = mark("ours/original, geometric mean", mean(&original), 4.0);
+        let of_each = |wanted| mark("ours/original, least", least(&original), wanted);
+        let ahead = mark("ours/astcenc, least", least(&astcenc), 1.0);
+        match self.profile {
+            Profile::Ldr => vec![of_all, of_each(3.0), ahead],
+            Profile::Hdr => vec![of_each(2.5), ahead],
+        }
+    }
+
     /// Times the picture at all footprints; the marks that are set for it.
     pub fn measure(&self, runs: usize) -> Result<Vec<Mark>, String> {
-        let name = self.name;
         if !rival::THERE {
             println!(
-                "\n{name} is left out: astcenc, which encodes it, was not there to build with"
+                "\n{} is left out: astcenc, which encodes it, was not there to build with",
+                self.name
             );
             return Ok(Vec::new());
         }
         let (mut races, mix) = self.races();
         let all = self.rates(&mut races, runs)?;
-        println!(
-            "\n{name}, {}x{}, encoded by astcenc at medium quality; millions of texels a second, one thread, best of {runs} runs",
-            self.width, self.height
-        );
-        println!("block     ours  original  astcenc  ours/original  ours/astcenc");
-        for ((bw, bh), &rates) in FOOTPRINTS.iter().zip(&all) {
-            print_rates(&format!("{bw}x{bh}"), rates);
-        }
-        let original = || all.iter().map(|rates| rates.over_original());
-        let astcenc = || all.iter().filter_map(|rates| rates.over_astcenc());
-        print_ratios("geometric mean", mean(original()), mean(astcenc()));
-        print_ratios("least", least(original()), least(astcenc()));
+        self.print(&all, runs);
         mix.print();
-        let mark = |what, ratio, wanted| Mark::at_least(format!("{name}, {what}"), ratio, wanted);
-        let mut marks = match self.profile {
-            Profile::Ldr => vec![
-                mark("ours/original, geometric mean", mean(original()), 4.0),
-                mark("ours/original, least", least(original()), 3.0),
-            ],
-            Profile::Hdr => vec![mark("ours/original, least", least(original()), 2.5)],
-        };
-        marks.push(mark("ours/astcenc, least", least(astcenc()), 1.0));
-        Ok(marks)
+        Ok(self.marks(&all))
     }
 }
 
@@ -157,14 +176,34 @@ impl Picture {
 mod tests {
     use super::*;
 
-    #[test]
-    fn the_picture_has_blocks_of_all_kinds() {
-        let drawn = drawing::drawn(LDR.width, LDR.height);
-        let shape = LDR.shape((8, 8));
+    /// What the blocks of a picture are at 8x8.
+    fn mix(picture: &Picture) -> Mix {
+        let drawn = drawing::drawn(picture.width, picture.height);
+        let shape = picture.shape((8, 8));
         let mut mix = Mix::default();
-        mix.add(&rival::encoded(&drawn, Profile::Ldr, shape), shape);
-        let share = |n: usize| 100 * n / mix.all;
-        assert!(share(mix.parts[0]) >= 30 && share(mix.parts[1]) >= 5);
-        assert!(mix.parts[2] > 0 && mix.dual > 0 && mix.void > 0);
+        mix.add(&rival::encoded(&drawn, picture.profile, shape), shape);
+        mix
+    }
+
+    #[test]
+    fn the_picture_has_blocks_of_many_kinds() {
+        let Mix {
+            all,
+            void,
+            dual,
+            hdr,
+            parts,
+        } = mix(&LDR);
+        let share = |n: usize| 100 * n / all;
+        assert!(share(parts[0]) >= 30 && share(parts[1]) >= 5);
+        assert!(parts[2] > 0 && dual > 0 && void > 0);
+        assert_eq!(hdr, 0);
+    }
+
+    #[test]
+    fn the_hdr_picture_has_hdr_blocks() {
+        let mix = mix(&HDR);
+        assert!(100 * mix.hdr >= 95 * mix.all);
+        assert!(mix.parts[1] > 0 && mix.dual > 0);
     }
 }

@@ -171,9 +171,9 @@ impl Canvas {
 
 /// An image, and the decoders' best times for it so far.
 ///
-/// The decoders are timed in pieces of about the same length, and those of one turn are done side by side, from the first rows of the
-/// image to the last. On a busy machine a short piece has a better best time than a long one, and times when it is less busy come and
-/// go: whole images, one decoder after another, would flatter the faster decoder, or any.
+/// The decoders are timed in pieces of about the same length, and those of one turn are done side by side, from the first rows of
+/// the image to the last. On a busy machine a short piece has a better best time than a long one, and times when it is less busy
+/// come and go: whole images, one decoder after another, would flatter the faster decoder, or any.
 pub struct Race {
     data: Vec<u8>,
     shape: Shape,

@@ -59,7 +59,7 @@ extern "C" fn start(job: *mut c_void) -> *mut c_void {
     ptr::null_mut()
 }
 
-/// The bytes of stack that some work uses, with the few that the call of it takes: how far below the frame of `start` its thread wrote.
+/// The bytes of stack that some work uses, with the few that its call takes: how far below the frame of `start` its thread wrote.
 fn used(work: &mut dyn FnMut()) -> usize {
     let mut stack = vec![Page([UNUSED; 65536]); PAGES];
     let (base, size) = (stack.as_mut_ptr().cast::<u8>(), size_of_val(&stack[..]));
@@ -82,8 +82,8 @@ fn used(work: &mut dyn FnMut()) -> usize {
     job.stood - (base as usize + unused)
 }
 
-/// The images that the functions work on: for each kind and footprint one of a few blocks, with an edge that cuts blocks, and one of
-/// any bits, most of which break a rule.
+/// The images that the functions work on: for each kind and footprint one of a few blocks, with an edge that cuts blocks, and one
+/// of any bits, most of which break a rule.
 fn images() -> Vec<(Vec<u8>, Shape)> {
     let mut images = Vec::new();
     let random = &mut Random::new(1);
@@ -152,7 +152,7 @@ pub fn measure() -> Vec<Mark> {
     for (name, bytes) in functions {
         println!("{name:<18}{bytes:>6}");
     }
-    let largest = most(functions.map(|(_, bytes)| bytes as f64));
+    let largest = most(&functions.map(|(_, bytes)| bytes as f64));
     vec![Mark::at_most("bytes of stack, most", largest, MOST as f64)]
 }
 

@@ -1,23 +1,19 @@
 //! The marks that are set for the speed, and whether they are met.
 
-/// The least of some ratios.
-pub fn least(ratios: impl IntoIterator<Item = f64>) -> f64 {
-    ratios.into_iter().fold(f64::INFINITY, f64::min)
+/// The least of some numbers.
+pub fn least(numbers: &[f64]) -> f64 {
+    numbers.iter().copied().fold(f64::INFINITY, f64::min)
 }
 
-/// The largest of some ratios.
-pub fn most(ratios: impl IntoIterator<Item = f64>) -> f64 {
-    ratios.into_iter().fold(f64::NEG_INFINITY, f64::max)
+/// The largest of some numbers.
+pub fn most(numbers: &[f64]) -> f64 {
+    numbers.iter().copied().fold(f64::NEG_INFINITY, f64::max)
 }
 
 /// The geometric mean of some ratios.
-pub fn mean(ratios: impl IntoIterator<Item = f64>) -> f64 {
-    let (mut logs, mut count) = (0.0, 0.0);
-    for ratio in ratios {
-        logs += ratio.ln();
-        count += 1.0;
-    }
-    (logs / count).exp()
+pub fn mean(ratios: &[f64]) -> f64 {
+    let logs: f64 = ratios.iter().map(|ratio| ratio.ln()).sum();
+    (logs / ratios.len() as f64).exp()
 }
 
 /// A number that was measured, and what it should be.
@@ -79,7 +75,7 @@ mod tests {
 
     #[test]
     fn the_mean_of_ratios_is_geometric() {
-        assert!((mean([2.0, 8.0]) - 4.0).abs() < 1e-12);
-        assert_eq!(least([3.0, 2.0, 8.0]), 2.0);
+        assert!((mean(&[2.0, 8.0]) - 4.0).abs() < 1e-12);
+        assert_eq!(least(&[3.0, 2.0, 8.0]), 2.0);
     }
 }
