@@ -4,7 +4,7 @@ use super::rival::Rival;
 use crate::archive;
 use model::Shape;
 use original::astc::decode_astc;
-use std::ffi::c_long;
+use std::ffi::c_int;
 use std::hint::black_box;
 use std::ops::Range;
 use std::time::Duration;
@@ -12,14 +12,28 @@ use std::time::Duration;
 /// About how long the work is that is timed at once.
 const PIECE: Duration = Duration::from_micros(250);
 
-extern "C" {
-    fn clock() -> c_long;
+/// The number of the clock that counts the processor's time of a process.
+const PROCESS_TIME: c_int = if cfg!(target_os = "macos") { 12 } else { 2 };
+
+/// As 64-bit systems have it.
+#[repr(C)]
+#[derive(Default)]
+struct Time {
+    seconds: i64,
+    nanoseconds: i64,
 }
 
-/// The processor's time that this process took, in which POSIX counts a million a second.
+extern "C" {
+    fn clock_gettime(clock: c_int, time: *mut Time) -> c_int;
+}
+
+/// The processor's time that this process took.
 fn processor_time() -> Duration {
-    // SAFETY: the function takes nothing, and only answers.
-    Duration::from_micros(unsafe { clock() } as u64)
+    let mut time = Time::default();
+    // SAFETY: the time is the system's.
+    let status = unsafe { clock_gettime(PROCESS_TIME, &mut time) };
+    assert_eq!(status, 0, "the system has a clock for each process");
+    Duration::new(time.seconds as u64, time.nanoseconds as u32)
 }
 
 /// The processor's time that some work takes. The time of day would count what else the machine does.
