@@ -56,7 +56,7 @@ impl Part {
             Part::Hdr => pictures::HDR.measure(runs),
             Part::Kinds => grid::measure(runs),
             Part::Linear => linear::measure(),
-            Part::Threads => threads::measure(runs).map(|()| Vec::new()),
+            Part::Threads => threads::measure(3 * runs).map(|()| Vec::new()),
             Part::Stack => Ok(stack::measure()),
         }
     }

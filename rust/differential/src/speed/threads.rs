@@ -9,16 +9,17 @@ use std::time::{Duration, Instant};
 
 const FOOTPRINTS: [(usize, usize); 3] = [(4, 4), (8, 8), (12, 12)];
 
-const SIDE: usize = 2048;
+const SIDE: usize = 1024;
 
-/// The time of day that some work takes: the processor's would add up over threads.
+/// The time of day that some work takes: the processor's would add up over threads. It says something only while the machine does
+/// nothing else.
 fn taken(work: impl FnOnce()) -> Duration {
     let start = Instant::now();
     work();
     start.elapsed()
 }
 
-/// The best times for an image painted at once, by one thread, and by two.
+/// The best times for an image painted at once, by one thread, and by two, all taking turns.
 fn times((bw, bh): (usize, usize), runs: usize) -> Result<[Duration; 3], String> {
     let shape = Shape {
         width: SIDE,
@@ -38,6 +39,7 @@ fn times((bw, bh): (usize, usize), runs: usize) -> Result<[Duration; 3], String>
         best[0] = time.min(best[0]);
         for threads in [1, 2] {
             let mut answer = Answer::Legal;
+            parts.fill(1);
             let time = taken(|| {
                 answer = decode_image_by_threads(&data, SIDE, SIDE, footprint, &mut parts, threads);
             });
@@ -55,7 +57,7 @@ fn times((bw, bh): (usize, usize), runs: usize) -> Result<[Duration; 3], String>
 /// Times images by one thread and by two, in millions of texels a second.
 pub fn measure(runs: usize) -> Result<(), String> {
     println!(
-        "\nmixed blocks, {SIDE}x{SIDE}, on two threads; millions of texels a second by the time of day, best of {runs} runs"
+        "\nmixed blocks, {SIDE}x{SIDE}; millions of texels a second by the time of day, best of {runs} runs, for two idle cores"
     );
     println!("block   at once   1 thread   2 threads   2 threads/at once");
     for (bw, bh) in FOOTPRINTS {
