@@ -1,9 +1,9 @@
 //! The archive against Arm's astcenc: which blocks are legal, their parameters, and LDR words to within 1. Void blocks are apart:
 //! here every one is answer 1, and astcenc judges their extents.
 
-use crate::archive;
-use crate::run::{run, Options, Sample, Tally};
+use crate::run::{run, Options, Tally};
 use crate::shim::{Context, Findings};
+use judge::{archive, Sample};
 use model::{bits, Layout, FOOTPRINTS, HDR_MODES, TOPS};
 use std::time::Instant;
 

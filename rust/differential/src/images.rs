@@ -1,171 +1,34 @@
-//! Whole images and images in steps: the archive against images that the original paints, block by block and whole, and against
-//! document 01's rules on sizes and cursors.
+//! Whole images, images in steps and refused ones, of blocks of all kinds and of sizes that are right or wrong.
 
-use crate::archive;
-use crate::marks::{marks, room, same, same_answer, BEFORE, SPARE};
-use crate::run::{Options, Sample, Tally};
+use crate::run::{Options, Tally};
+use judge::image::{refused, Image, Moved, Step, MOVED};
+use judge::{room, Canvas, Sample, SPARE};
 use model::blocks::{Kind, Legal};
 use model::random::Random;
 use model::{Shape, FOOTPRINTS};
-use original::astc::decode_astc;
-use std::array;
-use std::ops::Range;
-use std::panic::{catch_unwind, AssertUnwindSafe};
 use std::time::Instant;
 
-/// The numbers that a step writes.
-const MOVED: usize = 3;
-/// The places for them, with those before and behind, which must stay.
-const PLACES: usize = BEFORE + MOVED + 8;
-
-/// An image that is to be painted, and what it must become.
-struct Image {
-    shape: Shape,
-    data: Vec<u8>,
-    /// The answers of its blocks.
-    answers: Vec<u8>,
-    /// Whether the original judges all of its blocks.
-    judged: bool,
-    pixels: Vec<u32>,
-}
-
-impl Image {
-    /// An image of blocks of all kinds, or only of those that the original judges, composed block by block.
-    fn new(shape: Shape, judged: bool, legal: &Legal, random: &mut Random) -> Result<Self, String> {
-        let footprint = (shape.bw, shape.bh);
-        let mut image = Image {
-            shape,
-            data: Vec::with_capacity(16 * shape.blocks()),
-            answers: Vec::with_capacity(shape.blocks()),
-            judged: true,
-            pixels: vec![0; shape.pixels()],
-        };
-        for block in 0..shape.blocks() {
-            let sample = loop {
-                let kind = Kind::of(random.number());
-                let sample = Sample::new(kind.block(random, footprint, legal), footprint);
-                if sample.judged() || !judged {
-                    break sample;
-                }
-            };
-            image.data.extend(sample.block);
-            image.answers.push(sample.answer);
-            image.judged &= sample.judged();
-            let mut texels = [0; 144];
-            sample.paint(&mut texels[..sample.texels()])?;
-            for (row, texels) in shape.rows(block).zip(texels.chunks(shape.bw)) {
-                let wide = row.len();
-                image.pixels[row].copy_from_slice(&texels[..wide]);
-            }
+/// The data of an image of blocks of all kinds, or only of those that the original judges.
+fn data(shape: Shape, judged: bool, legal: &Legal, random: &mut Random) -> Vec<u8> {
+    let footprint = (shape.bw, shape.bh);
+    let block = |_| loop {
+        let kind = Kind::of(random.number());
+        let sample = Sample::new(kind.block(random, footprint, legal), footprint);
+        if sample.judged() || !judged {
+            break sample.block;
         }
-        Ok(image)
-    }
-
-    /// How many of these blocks answer 10 to 16.
-    fn bad(&self, blocks: Range<usize>) -> usize {
-        let answers = &self.answers[blocks];
-        answers.iter().filter(|&&answer| answer >= 10).count()
-    }
-
-    /// Paints these blocks as they must become.
-    fn paint(&self, blocks: Range<usize>, out: &mut [u32]) {
-        for row in blocks.flat_map(|block| self.shape.rows(block)) {
-            out[row.clone()].copy_from_slice(&self.pixels[row]);
-        }
-    }
-
-    /// The original's own image.
-    fn by_original(&self) -> Result<Vec<u32>, String> {
-        let Shape {
-            width,
-            height,
-            bw,
-            bh,
-        } = self.shape;
-        let mut pixels = vec![0; self.shape.pixels()];
-        catch_unwind(AssertUnwindSafe(|| {
-            decode_astc(&self.data, width, height, bw, bh, &mut pixels)
-        }))
-        .map_err(|_| "the original panics at the image".to_string())?
-        .map_err(|error| format!("the original refuses the image: {error}"))?;
-        Ok(pixels)
-    }
+    };
+    (0..shape.blocks()).flat_map(block).collect()
 }
 
-/// An output among words that must stay, and what all of them must be.
-struct Canvas {
-    all: Vec<u32>,
-    expected: Vec<u32>,
-    out: Range<usize>,
-}
-
-impl Canvas {
-    fn new(room: usize, random: &mut Random) -> Self {
-        let all: Vec<u32> = (0..BEFORE + room + 8).map(marks(random)).collect();
-        Canvas {
-            expected: all.clone(),
-            all,
-            out: BEFORE..BEFORE + room,
-        }
-    }
-
-    fn out(&mut self) -> &mut [u32] {
-        &mut self.all[self.out.clone()]
-    }
-
-    fn expected(&mut self) -> &mut [u32] {
-        &mut self.expected[self.out.clone()]
-    }
-
-    fn compare(&self, tally: &mut Tally) -> Result<(), String> {
-        tally.add("words compared", self.all.len());
-        same("word", &self.all, &self.expected)
-    }
-}
-
-/// The numbers of a step among places that must stay, before it.
-fn places(random: &mut Random) -> [u64; PLACES] {
-    let mark = marks(random);
-    array::from_fn(|i| u64::from(mark(i)) << 32 | u64::from(mark(i + PLACES)))
-}
-
-/// Holds the numbers of a step to those that are expected, and the places around them to what they were.
-fn same_numbers(
-    ours: &[u64; PLACES],
-    before: &[u64; PLACES],
-    expected: Option<[usize; MOVED]>,
-) -> Result<(), String> {
-    let mut all = *before;
-    if let Some(numbers) = expected {
-        all[BEFORE..BEFORE + MOVED].copy_from_slice(&numbers.map(|n| n as u64));
-    }
-    if *ours == all {
-        return Ok(());
-    }
-    let numbers = &ours[BEFORE..BEFORE + MOVED];
-    Err(match expected {
-        Some(expected) if expected.map(|n| n as u64) != numbers => {
-            format!("numbers of the step: ours {numbers:?}, expected {expected:?}")
-        }
-        Some(_) => "places around the numbers of the step were written".into(),
-        None => "places for the numbers of the step were written".into(),
-    })
-}
-
-/// The image painted at once, and the original's whole image where it judges all blocks.
+/// The image painted at once.
 fn judge_whole(image: &Image, random: &mut Random, tally: &mut Tally) -> Result<(), String> {
-    let mut canvas = Canvas::new(room(image.pixels.len(), random), random);
-    let answer = archive::decode_image(&image.data, image.shape, canvas.out());
-    same_answer("answer", answer, 0)?;
-    image.paint(0..image.answers.len(), canvas.expected());
-    canvas.compare(tally)?;
+    let mut canvas = Canvas::new(room(image.pixels(), random), random);
+    image.whole(&mut canvas)?;
+    tally.add("words compared", canvas.compared());
     tally.count("images painted at once");
-    if image.judged {
-        let wide = image.pixels.len();
-        canvas.expected()[..wide].copy_from_slice(&image.by_original()?);
-        canvas
-            .compare(tally)
-            .map_err(|difference| format!("by the original's whole image, {difference}"))?;
+    if image.judged() {
+        tally.add("words compared", canvas.compared());
         tally.count("images compared with the original's whole image too");
     }
     Ok(())
@@ -180,28 +43,10 @@ fn judge_step(
     random: &mut Random,
     tally: &mut Tally,
 ) -> Result<usize, String> {
-    let painted = blocks.min(image.answers.len() - next);
-    let end = next + painted;
-    let before = places(random);
-    let mut moved = before;
-    let numbers = &mut moved[BEFORE..BEFORE + MOVED + random.below(3)];
-    let answer = archive::image_step(
-        &image.data,
-        image.shape,
-        next,
-        blocks,
-        canvas.out(),
-        numbers,
-    );
-    image.paint(next..end, canvas.expected());
-    same_answer("answer", answer, 0)
-        .and_then(|()| {
-            let numbers = [end, painted, image.bad(next..end)];
-            same_numbers(&moved, &before, Some(numbers))
-        })
-        .and_then(|()| canvas.compare(tally))
-        .map_err(|difference| format!("step of {blocks} blocks from {next}: {difference}"))?;
-    tally.count(if painted > 0 {
+    let moved = &mut Moved::new(MOVED + random.below(3), random);
+    let end = image.step(Step { next, blocks }, canvas, moved)?;
+    tally.add("words compared", canvas.compared());
+    tally.count(if end > next {
         "steps"
     } else {
         "steps of a finished cursor"
@@ -241,11 +86,11 @@ impl Pace {
 
 /// The image painted in steps from its first block, and then on a fresh output a step from any block.
 fn judge_steps(image: &Image, random: &mut Random, tally: &mut Tally) -> Result<(), String> {
-    let total = image.answers.len();
+    let total = image.blocks();
     // each step is compared whole, so that large images have few steps
     let least = if total > 10_000 { total / 8 } else { 1 };
     let pace = Pace::ALL[random.below(Pace::ALL.len())];
-    let mut canvas = Canvas::new(room(image.pixels.len(), random), random);
+    let mut canvas = Canvas::new(room(image.pixels(), random), random);
     let mut next = 0;
     while next < total {
         let blocks = pace.step(total, random).max(least);
@@ -254,7 +99,7 @@ fn judge_steps(image: &Image, random: &mut Random, tally: &mut Tally) -> Result<
     let blocks = pace.step(total, random);
     judge_step(image, &mut canvas, next, blocks, random, tally)?;
 
-    let mut canvas = Canvas::new(room(image.pixels.len(), random), random);
+    let mut canvas = Canvas::new(room(image.pixels(), random), random);
     let next = random.below(total + 1);
     let blocks = Pace::Any.step(total, random);
     judge_step(image, &mut canvas, next, blocks, random, tally)?;
@@ -316,8 +161,9 @@ fn compare_image(
 ) {
     let place = FOOTPRINTS.iter().position(|&f| f == (shape.bw, shape.bh));
     let legal = &legal[place.expect("an image's footprint is listed")];
-    let outcome = Image::new(shape, judged, legal, random).and_then(|image| {
-        let (total, bad) = (image.answers.len(), image.bad(0..image.answers.len()));
+    let data = data(shape, judged, legal, random);
+    let outcome = Image::new(shape, &data).and_then(|image| {
+        let (total, bad) = (image.blocks(), image.bad(0..image.blocks()));
         tally.add("blocks of images", total);
         tally.add("bad blocks of images", bad);
         judge_whole(&image, random, tally)?;
@@ -404,42 +250,26 @@ impl Refused<'_> {
             return;
         };
         let mut canvas = Canvas::new(self.room, random);
-        let ours = archive::decode_image(self.data, self.shape, canvas.out());
-        let outcome = same_answer("answer", ours, answer).and_then(|()| canvas.compare(tally));
-        self.end(answer, outcome, tally);
+        let outcome = refused(self.data, self.shape, answer, &mut canvas);
+        self.end(answer, &canvas, outcome, tally);
     }
 
-    /// A step with so many places for its numbers: its answer, an output that stays, and where the places are enough the next block
-    /// as given and two zeros.
-    fn step(
-        &self,
-        next: usize,
-        blocks: usize,
-        wide: usize,
-        random: &mut Random,
-        tally: &mut Tally,
-    ) {
+    /// A step with so many places for its numbers.
+    fn step(&self, step: Step, wide: usize, random: &mut Random, tally: &mut Tally) {
         let (data, shape) = (self.data, self.shape);
-        let Some(answer) = shape.step_refusal(data.len(), self.room, wide, next, blocks) else {
+        let Some(answer) = shape.step_refusal(data.len(), self.room, wide, step.next, step.blocks)
+        else {
             return;
         };
         let mut canvas = Canvas::new(self.room, random);
-        let before = places(random);
-        let mut moved = before;
-        let numbers = &mut moved[BEFORE..BEFORE + wide];
-        let ours = archive::image_step(data, shape, next, blocks, canvas.out(), numbers);
-        let expected = (wide >= MOVED).then_some([next, 0, 0]);
-        let outcome = same_answer("answer", ours, answer)
-            .and_then(|()| same_numbers(&moved, &before, expected))
-            .and_then(|()| canvas.compare(tally))
-            .map_err(|difference| {
-                format!("step of {blocks} blocks from {next} with {wide} places: {difference}")
-            });
-        self.end(answer, outcome, tally);
+        let moved = &mut Moved::new(wide, random);
+        let outcome = step.refused(data, shape, answer, &mut canvas, moved);
+        self.end(answer, &canvas, outcome, tally);
     }
 
     /// Counts the refusal, and says where it differs, if it does.
-    fn end(&self, answer: u32, outcome: Result<(), String>, tally: &mut Tally) {
+    fn end(&self, answer: u32, canvas: &Canvas, outcome: Result<(), String>, tally: &mut Tally) {
+        tally.add("words compared", canvas.compared());
         tally.count(match answer {
             21 => "calls refused by 21",
             22 => "calls refused by 22",
@@ -489,7 +319,7 @@ fn compare_refusals(seed: u64, legal: &[Legal], tally: &mut Tally) {
                     for next in [0, total, total + 1, total | half, usize::MAX] {
                         for blocks in [0, 1, usize::MAX] {
                             for wide in 0..MOVED + 2 {
-                                call.step(next, blocks, wide, random, tally);
+                                call.step(Step { next, blocks }, wide, random, tally);
                             }
                         }
                     }

@@ -8,12 +8,10 @@
 //! images, and says which of the marks that are set for it are met; it takes the names of its parts, where not all are wanted, and
 //! `--runs N`.
 
-mod archive;
 #[cfg(astcenc)]
 mod astcenc;
 mod blocks;
 mod images;
-mod marks;
 mod run;
 #[cfg(astcenc)]
 mod shim;

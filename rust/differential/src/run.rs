@@ -1,12 +1,11 @@
 //! A long run over blocks of all kinds, in parts that threads take in turn. A seed and a count give the same blocks to any judge,
 //! with any number of threads.
 
+use judge::Sample;
 use model::blocks::{self, Kind, Legal};
 use model::random::Random;
-use model::{answer, ANSWERS, FOOTPRINTS, MAGENTA};
-use original::astc::decode_astc_block;
+use model::{ANSWERS, FOOTPRINTS};
 use std::collections::BTreeMap;
-use std::panic::{catch_unwind, AssertUnwindSafe};
 use std::sync::atomic::{AtomicU64, Ordering};
 use std::thread;
 use std::time::Instant;
@@ -23,47 +22,6 @@ const PART: u64 = 10_000;
 
 /// The differences that a thread shows; it counts the others.
 const SHOWN: u64 = 5;
-
-/// A block at a footprint, and the answer that document 01 gives it.
-pub struct Sample {
-    pub block: [u8; 16],
-    pub bw: usize,
-    pub bh: usize,
-    pub answer: u8,
-}
-
-impl Sample {
-    pub fn new(block: [u8; 16], (bw, bh): (usize, usize)) -> Self {
-        let answer = answer(&block, bw, bh);
-        Sample {
-            block,
-            bw,
-            bh,
-            answer,
-        }
-    }
-
-    pub fn texels(&self) -> usize {
-        self.bw * self.bh
-    }
-
-    /// Whether the original is the judge of what is painted.
-    pub fn judged(&self) -> bool {
-        [0, 1, 10].contains(&self.answer)
-    }
-
-    /// Paints the block's words by the original, or magenta where it is no judge.
-    pub fn paint(&self, words: &mut [u32]) -> Result<(), String> {
-        if !self.judged() {
-            words.fill(MAGENTA);
-            return Ok(());
-        }
-        catch_unwind(AssertUnwindSafe(|| {
-            decode_astc_block(&self.block, self.bw, self.bh, words)
-        }))
-        .map_err(|_| format!("the original panics at a block of answer {}", self.answer))
-    }
-}
 
 /// Compares a block, with a source of numbers for what it chooses itself, apart from the source of the blocks; what differs, if
 /// something does.

@@ -3,7 +3,7 @@
 use super::kinds::{Kind, Source};
 use super::race::timed;
 use super::verdict::{most, Mark};
-use crate::archive;
+use judge::archive;
 use model::blocks::Legal;
 use model::Shape;
 use std::time::Duration;

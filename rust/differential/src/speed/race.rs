@@ -1,7 +1,7 @@
 //! The decoders' times for one image, in one process on one thread.
 
 use super::rival::Rival;
-use crate::archive;
+use judge::archive;
 use model::Shape;
 use original::astc::decode_astc;
 use std::ffi::c_int;

@@ -2,7 +2,7 @@
 
 use super::kinds::{Kind, Source};
 use super::verdict::{most, Mark};
-use crate::archive;
+use judge::archive;
 use model::blocks::Legal;
 use model::random::Random;
 use model::{Shape, FOOTPRINTS};

@@ -1,8 +1,8 @@
 //! What a second thread gains.
 
 use super::kinds::{Kind, Source};
-use crate::archive;
 use astc::{decode_image_by_threads, Answer, Footprint};
+use judge::archive;
 use model::blocks::Legal;
 use model::Shape;
 use std::time::{Duration, Instant};

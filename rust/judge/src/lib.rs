@@ -1,0 +1,11 @@
+//! Holds calls of the archive to what they must answer and write, by the original and by document 01's rules. What is called, with
+//! which blocks and sizes, is the caller's to choose.
+
+pub mod archive;
+pub mod block;
+mod canvas;
+pub mod image;
+mod sample;
+
+pub use canvas::{room, same_answer, Canvas, SPARE};
+pub use sample::Sample;

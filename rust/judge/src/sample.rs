@@ -1,0 +1,69 @@
+//! A block, and what document 01 and the original make of it.
+
+use model::{answer, MAGENTA};
+use original::astc::decode_astc_block;
+use std::panic::{catch_unwind, AssertUnwindSafe};
+
+/// A block at a footprint, and the answer that document 01 gives it.
+pub struct Sample {
+    pub block: [u8; 16],
+    pub bw: usize,
+    pub bh: usize,
+    pub answer: u8,
+}
+
+impl Sample {
+    pub fn new(block: [u8; 16], (bw, bh): (usize, usize)) -> Self {
+        let answer = answer(&block, bw, bh);
+        Sample {
+            block,
+            bw,
+            bh,
+            answer,
+        }
+    }
+
+    pub fn texels(&self) -> usize {
+        self.bw * self.bh
+    }
+
+    /// Whether the original is the judge of what is painted.
+    pub fn judged(&self) -> bool {
+        [0, 1, 10].contains(&self.answer)
+    }
+
+    /// Paints the block's words by the original, or magenta where it is no judge.
+    pub fn paint(&self, words: &mut [u32]) -> Result<(), String> {
+        if !self.judged() {
+            words.fill(MAGENTA);
+            return Ok(());
+        }
+        catch_unwind(AssertUnwindSafe(|| {
+            decode_astc_block(&self.block, self.bw, self.bh, words)
+        }))
+        .map_err(|_| format!("the original panics at a block of answer {}", self.answer))
+    }
+}
+
+#[cfg(test)]
+mod tests {
+    use super::*;
+    use model::random::Random;
+
+    /// The original panics at some of the blocks that are refused: taken for legal ones, they are differences.
+    #[test]
+    fn a_panic_of_the_original_is_a_difference() {
+        let random = &mut Random::new(1);
+        let panics = (0..10_000)
+            .map(|_| random.block())
+            .filter(|block| answer(block, 4, 4) > 10)
+            .map(|block| Sample {
+                block,
+                bw: 4,
+                bh: 4,
+                answer: 0,
+            })
+            .filter(|sample| sample.paint(&mut [0; 16]).is_err());
+        assert!(panics.count() > 0);
+    }
+}
