@@ -74,6 +74,14 @@ impl Legal {
         self.0.iter().flatten().copied()
     }
 
+    /// A random configuration of each group.
+    pub fn of_each_group(&self, random: &mut Random) -> Vec<Configuration> {
+        let groups = self.0.iter();
+        groups
+            .map(|group| group[random.below(group.len())])
+            .collect()
+    }
+
     /// A configuration of a random group: rare ones come as often as common ones.
     pub fn pick(&self, random: &mut Random) -> Configuration {
         let group = &self.0[random.below(self.0.len())];
