@@ -46,7 +46,7 @@ fn renew(input: &mut [u8], random: &mut Random) {
     }
 }
 
-/// Changes an input: as libFuzzer does, or by other blocks in the place of its own. The new length.
+/// Changes an input: as libFuzzer does, or by other blocks in the place of its own, or to a block of any kind. The new length.
 #[no_mangle]
 extern "C" fn LLVMFuzzerCustomMutator(
     start: *mut u8,
@@ -55,13 +55,22 @@ extern "C" fn LLVMFuzzerCustomMutator(
     seed: c_uint,
 ) -> usize {
     let random = &mut Random::new(seed.into());
-    if length >= 16 && random.below(2) == 0 {
-        // SAFETY: libFuzzer hands over so many bytes, which are this function's to change.
-        renew(unsafe { slice::from_raw_parts_mut(start, length) }, random);
-        return length;
+    match random.below(4) {
+        0 => {
+            let block = seeds::any_block(random);
+            let length = block.len().min(most);
+            // SAFETY: libFuzzer hands over room for the most bytes.
+            unsafe { ptr::copy_nonoverlapping(block.as_ptr(), start, length) };
+            length
+        }
+        1 if length >= 16 => {
+            // SAFETY: libFuzzer hands over so many bytes, which are this function's to change.
+            renew(unsafe { slice::from_raw_parts_mut(start, length) }, random);
+            length
+        }
+        // SAFETY: it is handed on what was handed over.
+        _ => unsafe { LLVMFuzzerMutate(start, length, most) },
     }
-    // SAFETY: it is handed on what was handed over.
-    unsafe { LLVMFuzzerMutate(start, length, most) }
 }
 
 /// Hands the program's words to libFuzzer; the status to end with.

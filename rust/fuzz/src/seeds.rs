@@ -40,6 +40,14 @@ fn of_block(number: usize, place: u8, block: &Block) -> Vec<u8> {
     }
 }
 
+/// An input with a block of any kind at any footprint.
+#[cfg(libfuzzer)]
+pub fn any_block(random: &mut Random) -> Vec<u8> {
+    let place = random.below(FOOTPRINTS.len());
+    let block = block(Kind::of(random.number()), place, random);
+    of_block(random.below(256), place as u8, &block)
+}
+
 /// Images of blocks, at once and in steps: of one block and of more, clipped or not.
 fn of_images(place: u8, blocks: &[Block], random: &mut Random) -> Vec<Vec<u8>> {
     let mut all = Vec::new();
