@@ -21,7 +21,7 @@ use run::Options;
 use std::process::ExitCode;
 
 const USAGE: &str = "usage: differential blocks|astcenc [--seed N] [--count N] [--threads N], or differential images [--seed N] \
-[--count N], or differential speed [pictures] [hdr] [kinds] [linear] [threads] [stack] [--runs N]; N is a number, of threads and \
+[--count N], or differential speed [pictures] [hdr] [kinds] [calls] [linear] [threads] [stack] [--runs N]; N is a number, of threads and \
 runs at least 1";
 
 /// The options of a command over blocks, or of the one over images, which has one thread.

@@ -2,6 +2,7 @@
 //! all in one process, on the same images, by processor time, best of some runs. Also how the time grows with the blocks, what a
 //! second thread gains, and how much stack the functions use.
 
+mod calls;
 mod drawing;
 mod grid;
 mod kinds;
@@ -24,16 +25,18 @@ enum Part {
     Pictures,
     Hdr,
     Kinds,
+    Calls,
     Linear,
     Threads,
     Stack,
 }
 
 impl Part {
-    const ALL: [Part; 6] = [
+    const ALL: [Part; 7] = [
         Part::Pictures,
         Part::Hdr,
         Part::Kinds,
+        Part::Calls,
         Part::Linear,
         Part::Threads,
         Part::Stack,
@@ -44,6 +47,7 @@ impl Part {
             Part::Pictures => "pictures",
             Part::Hdr => "hdr",
             Part::Kinds => "kinds",
+            Part::Calls => "calls",
             Part::Linear => "linear",
             Part::Threads => "threads",
             Part::Stack => "stack",
@@ -55,6 +59,7 @@ impl Part {
             Part::Pictures => pictures::LDR.measure(runs),
             Part::Hdr => pictures::HDR.measure(runs),
             Part::Kinds => grid::measure(runs),
+            Part::Calls => calls::measure(runs).map(|()| Vec::new()),
             Part::Linear => linear::measure(),
             Part::Threads => threads::measure(3 * runs).map(|()| Vec::new()),
             Part::Stack => Ok(stack::measure()),
