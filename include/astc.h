@@ -9,6 +9,8 @@
  * The footprints are 4x4 5x4 5x5 6x5 6x6 8x5 8x6 8x8 10x5 10x6 10x8 10x10 12x10 12x12, width by height.
  *
  * Threads: there is no state, no allocation and no global. Calls may run at once on any threads, as long as their outputs are apart.
+ *
+ * Cost: the time grows with the number of blocks painted, and a refused call paints none. A call takes less than 8 KiB of stack.
  */
 #ifndef ASTC_H
 #define ASTC_H
