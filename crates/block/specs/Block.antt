@@ -21,7 +21,7 @@ use Rattle.weights.specs.Infill.{weightsOf}
 use Rattle.weights.specs.declared.Grid.{Grid}
 use Rattle.partition.specs.Partition.{partitionAt}
 use Rattle.blend.specs.Blend.{wordOf}
-use Rattle.paint.specs.Texels.{texelWord}
+use Rattle.texels.specs.Texels.{texelWord}
 use Rattle.block.specs.declared.BlockMap.{BlockMap}
 
 -- ---- a legal block, of its parameters p and two more fields

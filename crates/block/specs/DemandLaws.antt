@@ -21,8 +21,8 @@ use Rattle.endpoints.specs.declared.Mark.{Mark}
 use Rattle.endpoints.specs.declared.Mark.the-variants.{Ldr}
 use Rattle.endpoints.specs.declared.Endpoints.{Endpoints}
 use Rattle.blend.specs.BlendLaws.{Within, ldr-within}
-use Rattle.paint.specs.Texels.{channelBy, wordBy, texelWord}
-use Rattle.paint.specs.PaintLaws.{channel-byte, low-half, high-half, limit-of}
+use Rattle.texels.specs.Texels.{channelBy, wordBy, texelWord}
+use Rattle.texels.specs.PaintLaws.{channel-byte, low-half, high-half, limit-of}
 use Rattle.block.specs.Block.{endsField, weightsField, ordinaryWord, wordOfParams, blockWord, answerOf, paintedOf, mapAnswer, reportOf, blockMap}
 use Rattle.block.specs.Facts.{Facts, facts}
 use Rattle.block.specs.Parts.{ends-within, weights-light}

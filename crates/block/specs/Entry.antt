@@ -15,8 +15,8 @@ use Rattle.params.specs.Config.{isVoid, isReserved, configOf}
 use Rattle.params.specs.declared.Config.{Config}
 use Rattle.params.specs.declared.Judged.{Judged}
 use Rattle.params.specs.Laws.{answer-is}
-use Rattle.paint.specs.Texels.{halfAt, eights}
-use Rattle.paint.specs.PaintLaws.{half-low, half-high}
+use Rattle.texels.specs.Texels.{halfAt, eights}
+use Rattle.texels.specs.PaintLaws.{half-low, half-high}
 use Rattle.block.specs.Block.{blockWord, answerOf, paintedOf, mapAnswer, reportOf, blockMap, joinedAt}
 
 -- ---- a block's answer is below every refusal

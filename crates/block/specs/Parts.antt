@@ -29,8 +29,8 @@ use Rattle.weights.specs.Bounds.{weights-le}
 use Rattle.weights.specs.Infill.{weightsOf}
 use Rattle.partition.specs.Partition.{partitionAt}
 use Rattle.partition.specs.PartitionLaws.{partition-below}
-use Rattle.paint.specs.Given.{Given as PaintGiven}
-use Rattle.paint.specs.Texels.{texelWord, halfAt}
+use Rattle.texels.specs.Given.{Given as PaintGiven}
+use Rattle.texels.specs.Texels.{texelWord, halfAt}
 use Rattle.blend.specs.Blend.{wordOf}
 use Rattle.block.specs.Block.{endsOf, endsField, gridOf, countOf, weightsIn, weightsField, partitionsIn, ordinaryWord, voidWord, wordOfParams, blockWord}
 use Rattle.block.specs.Facts.{Facts}

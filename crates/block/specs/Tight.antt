@@ -27,7 +27,9 @@ use Rattle.weights.specs.Infill.{weightsOf}
 use Rattle.weights.specs.declared.Grid.{Grid}
 use Rattle.partition.specs.Partition.{partitionAt}
 use Rattle.blend.specs.Blend.{ldrChannel, hdrChannel, wordOf}
-use Rattle.paint.specs.Texels.{texelWord, halfAt, eights}
+use Rattle.texels.specs.Texels.{texelWord, halfAt, eights}
+use Rattle.texels.specs.Kinds.{startsOf, Ahead, eitherOf, anyOf}
+use Rattle.texels.specs.declared.Starts.{Starts}
 use Rattle.block.specs.Block.{blockWord, joinedAt, answerOf, paintedOf, blockMap}
 use Rattle.block.specs.declared.BlockMap.{BlockMap}
 
@@ -157,10 +159,31 @@ select-color-byte v0 v1 weight r s p q = p .0 ∙ sym (q .0)
 pub select-color-hdr : (v0 v1 weight : ℕ) → Tight ℕ (λ r. r ≡ hdrChannel v0 v1 weight)
 select-color-hdr v0 v1 weight = one ℕ (hdrChannel v0 v1 weight)
 
--- ---- paint
+-- ---- texels
+pub starts-of : (planes channel : ℕ) → Tight Starts (λ r. (r ≡ startsOf planes channel) × Ahead r)
+starts-of planes channel r s p q = p .0 ∙ sym (q .0)
+
+pub either : (p a b : ℕ) → Tight ℕ (λ r. r ≡ eitherOf p a b)
+either p a b = one ℕ (eitherOf p a b)
+
+pub any : (p a b c d : ℕ) → Tight ℕ (λ r. r ≡ anyOf p a b c d 0)
+any p a b c d = one ℕ (anyOf p a b c d 0)
+
+pub hdr-channel : (v0 v1 w : ℕ) → Tight ℕ (λ r. r ≡ hdrChannel v0 v1 w)
+hdr-channel v0 v1 w = one ℕ (hdrChannel v0 v1 w)
+
+-- ---- ldr, hdr and paint: one promise
 pub applicate-color : (n planes channel : ℕ) (ends : List Endpoints) (w map s : List ℕ)
     → Tight (List ℕ) (λ out. out ≡ put (halfAt (texelWord ends w map planes channel)) 0 (2 * eights n) s)
 applicate-color n planes channel ends w map s = one (List ℕ) (put (halfAt (texelWord ends w map planes channel)) 0 (2 * eights n) s)
+
+pub paint-ldr : (n planes channel : ℕ) (ends : List Endpoints) (w map s : List ℕ)
+    → Tight (List ℕ) (λ out. out ≡ put (halfAt (texelWord ends w map planes channel)) 0 (2 * eights n) s)
+paint-ldr = applicate-color
+
+pub paint-hdr : (n planes channel : ℕ) (ends : List Endpoints) (w map s : List ℕ)
+    → Tight (List ℕ) (λ out. out ≡ put (halfAt (texelWord ends w map planes channel)) 0 (2 * eights n) s)
+paint-hdr = applicate-color
 
 -- ---- block
 pub decode-halves : (b : Block) (bw bh : ℕ) (s : List ℕ)

@@ -24,7 +24,7 @@ use Rattle.weights.specs.Values.{values as weight-values}
 use Rattle.weights.specs.Infill.{stepOf, placeOf, factors, dot, infilled, infillAt, texelOf, infillOf, gridOf, weightAt, weightsOf}
 use Rattle.blend.specs.Blend.{between, expand, crateByte, ldrChannel, hdrChannel, wordOf}
 use Rattle.blend.specs.Values.{values as blend-values}
-use Rattle.paint.specs.Texels.{channelBy, wordBy, planeOf, texelWord}
+use Rattle.texels.specs.Texels.{channelBy, wordBy, planeOf, texelWord}
 use Rattle.block.specs.Block.{endsOf, weightsIn, partitionsIn, ordinaryWord, voidWord, wordOfParams, blockWord, answerOf, paintedOf, mapAnswer, reportOf, blockMap}
 
 -- P1's block; with byte 8 set to FF; P3's block; sixteen zero bytes

@@ -11,7 +11,7 @@ ghost use Rattle.half.specs.Half.{voidByteOf};
 ghost use Rattle.params.specs.Blocks.{listed, noMap, paramsOf};
 ghost use Rattle.partition.specs.Ramps.{Sides};
 ghost use Rattle.blend.specs.Blend.{wordOf};
-ghost use Rattle.paint.specs.Texels.{halfAt, eights};
+ghost use Rattle.texels.specs.Texels.{halfAt, eights};
 ghost use Rattle.block.specs.Block.{endsOf, endsField, weightsIn, weightsField, partitionsIn, ordinaryWord, voidWord, blockWord, joinedAt, answerOf, paintedOf, reportOf, blockMap};
 ghost use Rattle.block.specs.Facts.{Facts, Footprint, Tables};
 use bits::Block;

@@ -15,7 +15,7 @@ use borrow.Author.Tests.{le-ltb, le-leb, lt-leb}
 use Rattle.laws.specs.Lists.{put}
 use Rattle.bits.specs.Bits.{bytes}
 use Rattle.params.specs.Blocks.{paramsOf}
-use Rattle.paint.specs.Texels.{halfAt, eights}
+use Rattle.texels.specs.Texels.{halfAt, eights}
 use Rattle.block.specs.Block.{blockWord, joinedAt, mapAnswer}
 use Rattle.block.specs.Entry.{joined-is, map-answer}
 use Rattle.block.specs.Facts.{footprint}

@@ -5,14 +5,25 @@ ghost use lib.ListN.{getD};
 ghost use Rattle.laws.specs.Lists.{put};
 ghost use Rattle.endpoints.specs.Bounds.{Within, limit};
 ghost use Rattle.endpoints.specs.Colours.{nothing};
-ghost use Rattle.paint.specs.Texels.{channelBy, wordBy, halfAt, eights};
-ghost use Rattle.paint.specs.Kinds.{Ahead, wordAt};
-use crate::Starts;
-use crate::hdr_channel;
-use crate::place;
-use crate::wide;
+ghost use Rattle.texels.specs.Texels.{channelBy, wordBy, halfAt, eights};
+ghost use Rattle.texels.specs.Kinds.{Ahead, wordAt};
 use endpoints::Endpoints;
 use endpoints::Mark;
+use texels::Starts;
+use texels::hdr_channel;
+
+// A cast in a function of its own: its caller need not show that the number fits.
+fn wide(x: u8) -> u16
+    ensures { λ r. ⌜ (r ≡ x) × (r < 256) ⌝ }
+{
+    x as u16
+}
+
+fn place(x: u8) -> usize
+    ensures { λ r. ⌜ r ≡ x ⌝ }
+{
+    x as usize
+}
 
 // One channel by its mark.
 fn channel_by(m: Mark, v0: u16, v1: u16, w: u8) -> u8

@@ -1,6 +1,6 @@
 -- The places before 2 * i hold the halves of the one word.
-use Rattle.paint.specs.PaintLaws.{two-stores}
-use Rattle.paint.specs.Texels.{halfAt, eights}
+use Rattle.texels.specs.PaintLaws.{two-stores}
+use Rattle.texels.specs.Texels.{halfAt, eights}
 use Rattle.laws.specs.Lists.{put, put-none, put-end}
 use Prim.Native.Nat.{ℕ, _-_, _*_, _≤_}
 use mathlib.Core.Path.{_≡_, refl}

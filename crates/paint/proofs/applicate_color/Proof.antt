@@ -2,7 +2,7 @@
 use Prim.Native.Nat.{ℕ}
 use mathlib.Core.Path.{_∙_}
 use native.Mathlib.Omega.{arith}
-use Rattle.paint.specs.TexelLaws.{as-any}
+use Rattle.texels.specs.TexelLaws.{as-any}
 use borrow.Author.Needs.{needs}
 use Rattle.paint.proofs.applicate_color.Statement.{statement}
 use Rattle.paint.proofs.applicate_color.Tie as tie

@@ -5,7 +5,7 @@ use borrow.Author.Needs.{needs}
 use Rattle.endpoints.specs.Colours.{nothing}
 use Prim.Native.Nat.{ℕ, _-_, _≤_, _<_}
 use borrow.Author.Count.{below-more}
-use Rattle.paint.specs.Kinds.{kindOf, AllOf}
+use Rattle.texels.specs.Kinds.{kindOf, AllOf}
 use native.Mathlib.Omega.{arith}
 use Rattle.paint.proofs.common_kind.Statement.{statement}
 use Rattle.paint.proofs.common_kind.Tie as tie

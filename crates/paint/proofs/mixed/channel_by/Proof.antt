@@ -1,7 +1,7 @@
 -- The channel of each mark, within its limit.
 use Prim.Native.Nat.{_<_}
-use Rattle.paint.specs.Texels.{channelBy}
-use Rattle.paint.specs.PaintLaws.{limit-of, channel-of}
+use Rattle.texels.specs.Texels.{channelBy}
+use Rattle.texels.specs.PaintLaws.{limit-of, channel-of}
 use native.Mathlib.Omega.{arith}
 use borrow.Author.Needs.{needs}
 use Rattle.paint.proofs.mixed.channel_by.Statement.{statement}

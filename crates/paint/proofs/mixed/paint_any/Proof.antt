@@ -2,11 +2,11 @@
 use mathlib.Core.Path.{_≡_}
 use Prim.Native.Nat.{ℕ, _*_, _-_, _≤_, _<_, zero-le}
 use lib.ListN.{getD}
-use Rattle.laws.specs.Lists.{put, put-none, put-end}
+use Rattle.laws.specs.Lists.{put, put-none}
 use Rattle.endpoints.specs.Colours.{nothing}
-use Rattle.paint.specs.Texels.{halfAt, eights}
-use Rattle.paint.specs.Kinds.{wordAt}
-use Rattle.paint.specs.PaintLaws.{word-stores}
+use Rattle.texels.specs.Texels.{halfAt, eights}
+use Rattle.texels.specs.Kinds.{wordAt}
+use Rattle.texels.specs.PaintLaws.{word-stores}
 use native.Mathlib.Omega.{arith}
 use Rattle.paint.proofs.mixed.paint_any.Statement.{statement}
 use Rattle.paint.proofs.mixed.paint_any.Tie as tie

@@ -1,6 +1,6 @@
 -- A word of four channels.
 use mathlib.Core.Path.{_∙_}
-use Rattle.paint.specs.Texels.{wordBy}
+use Rattle.texels.specs.Texels.{wordBy}
 use borrow.Author.Needs.{needs}
 use Rattle.paint.proofs.mixed.texel.Statement.{statement}
 use Rattle.paint.proofs.mixed.texel.Tie as tie

@@ -1,8 +1,0 @@
-pub mod Texels
-pub mod Given
-pub mod Kinds
-pub mod PaintLaws
-pub mod KindLaws
-pub mod TexelLaws
-pub mod HdrLaws
-pub mod Values

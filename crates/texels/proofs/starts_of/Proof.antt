@@ -1,0 +1,26 @@
+-- The start of each channel.
+use borrow.Author.Needs.{needs}
+use Rattle.texels.proofs.starts_of.Statement.{statement}
+use Rattle.texels.proofs.starts_of.Tie as tie
+
+start-requires : tie.Need-start-requires
+start-requires c κs = search needs
+
+start-requires-2 : tie.Need-start-requires-2
+start-requires-2 c κs = search needs
+
+start-requires-3 : tie.Need-start-requires-3
+start-requires-3 c κs = search needs
+
+start-requires-4 : tie.Need-start-requires-4
+start-requires-4 c κs = search needs
+
+returns : tie.Need-returns
+returns c = (
+  rw (c .before .before .before .start .ensures .0, c .before .before .start2 .ensures .0, c .before .start3 .ensures .0, c .start4 .ensures .0),
+  record { r = c .before .before .before .start .ensures .1; g = c .before .before .start2 .ensures .1; b = c .before .start3 .ensures .1; a = c .start4 .ensures .1 },
+)
+
+pub starts-of-spec : {M : Type 1} → statement M
+starts-of-spec =
+    tie.close (tie.spec start-requires start-requires-2 start-requires-3 start-requires-4 returns)

@@ -1,0 +1,18 @@
+-- What painting is given: `applicate_color`, and the functions for LDR and HDR texels.
+-- Assumes nothing.
+use mathlib.Core.List.{List}
+use Prim.Native.Nat.{ℕ, _≤_, _<_}
+use lib.ListN.{getD}
+use Rattle.endpoints.specs.Bounds.{Within}
+use Rattle.endpoints.specs.Colours.{nothing}
+use Rattle.endpoints.specs.declared.Endpoints.{Endpoints}
+
+-- n texels in a number of partitions and planes, with the endpoints, weights and map that the layers below make
+pub record Given (n parts planes : ℕ) (ends : List Endpoints) (weights map : List ℕ) : Type 0 where
+  pub few : n ≤ 144
+  pub some : 1 ≤ parts
+  pub four : parts ≤ 4
+  pub dual : (1 ≤ planes) × (planes ≤ 2)
+  pub within : (i : ℕ) → Within (getD ends i nothing)
+  pub light : (i : ℕ) → getD weights i 0 ≤ 64
+  pub mapped : (i : ℕ) → getD map i 0 < parts

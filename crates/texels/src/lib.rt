@@ -1,0 +1,83 @@
+// What the loops over texels share: where the weights of each channel start, the number of a texel's partition, and one HDR channel.
+ghost use mathlib.Core.Path.{_≡_};
+ghost use Prim.Native.Nat.{_*_, _≤_, _<_};
+ghost use Rattle.blend.specs.Blend.{hdrChannel};
+ghost use Rattle.texels.specs.Texels.{planeOf};
+ghost use Rattle.texels.specs.Kinds.{startsOf, Ahead, eitherOf, anyOf};
+
+// Where the weights of each channel start.
+pub struct Starts {
+    pub r: usize,
+    pub g: usize,
+    pub b: usize,
+    pub a: usize,
+}
+
+// A cast in a function of its own: its caller need not show that the number fits.
+fn wide(x: u8) -> u16
+    ensures { λ r. ⌜ (r ≡ x) × (r < 256) ⌝ }
+{
+    x as u16
+}
+
+fn long(x: u16) -> u32
+    ensures { λ r. ⌜ r ≡ x ⌝ }
+{
+    x as u32
+}
+
+// Where the weights of channel k start: those of the second plane stand from 144 on.
+fn start(planes: usize, channel: usize, k: usize) -> usize
+    ensures { λ r. ⌜ (r ≡ 144 * planeOf planes channel k) × (r ≤ 144) ⌝ }
+{
+    if planes == 2 {
+        if channel == k {
+            return 144;
+        }
+        return 0;
+    }
+    0
+}
+
+// Where each channel's weights start, by the number of planes and the channel of the second.
+pub fn starts_of(planes: usize, channel: usize) -> Starts
+    ensures { λ r. ⌜ (r ≡ startsOf planes channel) × Ahead r ⌝ }
+{
+    Starts {
+        r: start(planes, channel, 0),
+        g: start(planes, channel, 1),
+        b: start(planes, channel, 2),
+        a: start(planes, channel, 3),
+    }
+}
+
+// Of two partitions' numbers, that of p.
+pub fn either(p: u8, a: u16, b: u16) -> u16
+    ensures { λ r. ⌜ r ≡ eitherOf p a b ⌝ }
+{
+    if p == 0 { a } else { b }
+}
+
+// Of four partitions' numbers, that of p.
+pub fn any(p: u8, a: u16, b: u16, c: u16, d: u16) -> u16
+    requires { ⌜ p < 4 ⌝ }
+    ensures { λ r. ⌜ r ≡ anyOf p a b c d 0 ⌝ }
+{
+    if p == 0 {
+        a
+    } else if p == 1 {
+        b
+    } else if p == 2 {
+        c
+    } else {
+        d
+    }
+}
+
+// One HDR channel.
+pub fn hdr_channel(v0: u16, v1: u16, w: u8) -> u8
+    requires { ⌜ (v0 < 4096) × (v1 < 4096) × (w ≤ 64) ⌝ }
+    ensures { λ r. ⌜ r ≡ hdrChannel v0 v1 w ⌝ }
+{
+    blend::select_color_hdr(long(v0), long(v1), long(wide(w)))
+}
