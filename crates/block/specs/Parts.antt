@@ -19,11 +19,13 @@ use Rattle.sequence.specs.declared.Range.{Range}
 use Rattle.half.specs.Half.{voidByteOf}
 use Rattle.params.specs.Blocks.{paramsOf}
 use Rattle.params.specs.declared.Params.{Params}
-use Rattle.endpoints.specs.Unquantised.{endpointValues}
+use Rattle.unquantise.specs.Unquantised.{endpointValues}
+use Rattle.unquantise.specs.Bounds.{values-lt as endpoint-values-lt}
 use Rattle.endpoints.specs.Endpoints.{endpointsList}
-use Rattle.endpoints.specs.declared.Endpoints.{Endpoints}
-use Rattle.endpoints.specs.Colours.{nothing}
-use Rattle.endpoints.specs.Bounds.{Within, partition-within, values-lt as endpoint-values-lt}
+use Rattle.endpoints.specs.Bounds.{partition-within}
+use Rattle.colours.specs.declared.Endpoints.{Endpoints}
+use Rattle.colours.specs.Colours.{nothing}
+use Rattle.colours.specs.Bounds.{Within}
 use Rattle.weights.specs.Given.{Given}
 use Rattle.weights.specs.Bounds.{weights-le}
 use Rattle.weights.specs.Infill.{weightsOf}

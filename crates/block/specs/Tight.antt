@@ -20,9 +20,16 @@ use Rattle.half.specs.Half.{half, productOf, hdrByteOf, voidByteOf}
 use Rattle.params.specs.Blocks.{listed, paramsOf, judgedOf}
 use Rattle.params.specs.declared.Judged.{Judged}
 use Rattle.params.specs.declared.Params.{Params}
-use Rattle.endpoints.specs.Unquantised.{endpointValues}
+use Rattle.unquantise.specs.Unquantised.{endpointValues}
+use Rattle.colours.specs.declared.Endpoints.{Endpoints}
+use Rattle.colours.specs.declared.Values.{Values}
+use Rattle.hdr_numbers.specs.Hdr.{sevenOf}
+use Rattle.hdr_numbers.specs.HdrLaws.{Below}
+use Rattle.hdr_numbers.specs.Hdr11Laws.{elevenOf, Small}
+use Rattle.hdr_numbers.specs.declared.Seven.{Seven}
+use Rattle.hdr_numbers.specs.declared.Eleven.{Eleven}
+use Rattle.modes.specs.Modes.{endpointsOf}
 use Rattle.endpoints.specs.Endpoints.{endpointsList}
-use Rattle.endpoints.specs.declared.Endpoints.{Endpoints}
 use Rattle.weights.specs.Infill.{weightsOf}
 use Rattle.weights.specs.declared.Grid.{Grid}
 use Rattle.partition.specs.Partition.{partitionAt}
@@ -131,10 +138,22 @@ decode-block-params b bw bh = one Params (paramsOf (valueOf b) bw bh)
 pub decode-block-map : (b : Block) (bw bh : ℕ) → Tight Judged (λ r. r ≡ judgedOf (paramsOf (valueOf b) bw bh))
 decode-block-map b bw bh = one Judged (judgedOf (paramsOf (valueOf b) bw bh))
 
--- ---- endpoints
+-- ---- unquantise
 pub unquantize : (q : ℕ) (seq : List ℕ) → Tight (List ℕ) (λ out. out ≡ endpointValues q seq)
 unquantize q seq = one (List ℕ) (endpointValues q seq)
 
+-- ---- hdr_numbers
+pub parts-of-seven : (m v0 v1 v2 v3 : ℕ) → Tight Seven (λ r. (r ≡ sevenOf m v0 v1 v2 v3) × (Below 4096 r))
+parts-of-seven m v0 v1 v2 v3 r s p q = p .0 ∙ sym (q .0)
+
+pub parts-of-eleven : (m : ℕ) (v : Values) → Tight Eleven (λ r. (r ≡ elevenOf m v) × (Small r))
+parts-of-eleven m v r s p q = p .0 ∙ sym (q .0)
+
+-- ---- modes
+pub decode-mode : (m : ℕ) (v : Values) → Tight Endpoints (λ r. r ≡ endpointsOf m v)
+decode-mode m v = one Endpoints (endpointsOf m v)
+
+-- ---- endpoints
 pub decode-endpoints : (parts : ℕ) (modes ev : List ℕ) → Tight (List Endpoints) (λ r. r ≡ endpointsList parts modes ev)
 decode-endpoints parts modes ev = one (List Endpoints) (endpointsList parts modes ev)
 

@@ -15,7 +15,7 @@ ghost use Rattle.texels.specs.Texels.{halfAt, eights};
 ghost use Rattle.block.specs.Block.{endsOf, endsField, weightsIn, weightsField, partitionsIn, ordinaryWord, voidWord, blockWord, joinedAt, answerOf, paintedOf, reportOf, blockMap};
 ghost use Rattle.block.specs.Facts.{Facts, Footprint, Tables};
 use bits::Block;
-use endpoints::Endpoints;
+use colours::Endpoints;
 use params::Map;
 use params::Params;
 use weights::Grid;
@@ -46,7 +46,7 @@ fn ends_of(
         k.values,
     );
     let mut ev = [0u8; 32];
-    endpoints::unquantize(&mut ev, k.values, range, &seq);
+    unquantise::unquantize(&mut ev, k.values, range, &seq);
     endpoints::decode_endpoints(k.parts, modes, &ev)
 }
 

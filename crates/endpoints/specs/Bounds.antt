@@ -1,4 +1,4 @@
--- How large endpoints are: LDR ones lie in 0..255 and HDR ones in 0..4095, for every mode and all bytes.
+-- Every mode's endpoints lie within their marks' limits, for all bytes.
 -- Assumes nothing.
 use mathlib.Core.Path.{_≡_, refl}
 use mathlib.Core.Bool.{Bool, true, false, cond}
@@ -6,44 +6,23 @@ use mathlib.Core.List.{List, [], _∷_}
 use Prim.Native.Nat.{ℕ, zero, suc, _+_, _*_, _/_, _%_, _≤_, _<_}
 use native.Mathlib.Nat.{mul-le-mul}
 use native.Mathlib.Omega.{arith}
-use native.Mathlib.Decide.{decLt}
-use lib.Dec.{eqb, leb, ltb, ltb→lt, lit<}
-use lib.ListN.{getD, length, List·getD-eq-default}
+use lib.Dec.{eqb, leb, ltb, lit<}
+use lib.ListN.{getD}
 use borrow.Author.Tests.{eqb-false}
-use Rattle.laws.specs.Table.{all, all-at}
-use Rattle.laws.specs.Lists.{listOf, length-listOf, getD-listOf}
-use Rattle.sequence.specs.Ranges.{ranges, rangeOf, levels}
-use Rattle.sequence.specs.Patterns.{copies, repeated, spelt}
-use Rattle.endpoints.specs.Patterns.{tritRows, quintRows}
-use Rattle.endpoints.specs.Unquantised.{byRow, unquantise, endpointValue, endpointValues}
-use Rattle.endpoints.specs.Colours.{Colour, ldr, nothing}
-use Rattle.endpoints.specs.Ldr.{offsetOf, clampedPair, luminance, luminanceOffset, luminanceAlphaOffset, scaled, direct, offset}
-use Rattle.endpoints.specs.Hdr.{rgb, alphas, opaque, hdr, less, grey, luminanceLarge, luminanceSmall, swapped, sevenLess, hdr7}
-use Rattle.endpoints.specs.Hdr11.{elevenMajor, under, elevenFirst, elevenSecond, hdr11, plainAlphas, offsetAlphas, hdrAlphas}
-use Rattle.endpoints.specs.Hdr11Laws.{alphas-0, alphas-1, alphas-2}
-use Rattle.endpoints.specs.Endpoints.{byMode, endpointsOf, valuesAt, countTo, partitionEndpoints, endpointsList}
-use Rattle.endpoints.specs.declared.Mark.{Mark}
-use Rattle.endpoints.specs.declared.Mark.the-variants.{Ldr, Hdr}
-use Rattle.endpoints.specs.declared.Endpoints.{Endpoints}
-use Rattle.endpoints.specs.declared.Rgb.{Rgb}
-use Rattle.endpoints.specs.declared.Seven.{Seven}
-use Rattle.endpoints.specs.declared.Values.{Values}
-use Rattle.endpoints.specs.declared.Alphas.{Alphas}
-
--- ---- what is stated
-abbrev pub limit : Mark → ℕ
-limit Ldr = 256
-limit Hdr = 4096
-
-pub record Within (e : Endpoints) : Type 0 where
-  pub r0 : e .r0 < limit (e .color)
-  pub g0 : e .g0 < limit (e .color)
-  pub b0 : e .b0 < limit (e .color)
-  pub a0 : e .a0 < limit (e .alpha)
-  pub r1 : e .r1 < limit (e .color)
-  pub g1 : e .g1 < limit (e .color)
-  pub b1 : e .b1 < limit (e .color)
-  pub a1 : e .a1 < limit (e .alpha)
+use Rattle.colours.specs.Colours.{Colour, ldr, nothing}
+use Rattle.colours.specs.Bounds.{limit, Within}
+use Rattle.modes.specs.Ldr.{offsetOf, clampedPair, luminance, luminanceOffset, luminanceAlphaOffset, scaled, direct, offset}
+use Rattle.hdr_numbers.specs.Hdr.{rgb, alphas, opaque, hdr, less, grey, luminanceLarge, luminanceSmall, swapped, sevenLess, hdr7}
+use Rattle.hdr_numbers.specs.Hdr11.{elevenMajor, under, elevenFirst, elevenSecond, hdr11, plainAlphas, offsetAlphas, hdrAlphas}
+use Rattle.hdr_numbers.specs.Hdr11Laws.{alphas-0, alphas-1, alphas-2}
+use Rattle.modes.specs.Modes.{byMode, endpointsOf}
+use Rattle.endpoints.specs.Endpoints.{valuesAt, countTo, partitionEndpoints, endpointsList}
+use Rattle.colours.specs.declared.Mark.the-variants.{Hdr}
+use Rattle.colours.specs.declared.Endpoints.{Endpoints}
+use Rattle.hdr_numbers.specs.declared.Rgb.{Rgb}
+use Rattle.hdr_numbers.specs.declared.Seven.{Seven}
+use Rattle.colours.specs.declared.Values.{Values}
+use Rattle.colours.specs.declared.Alphas.{Alphas}
 
 pub record Bytes (v : Values) : Type 0 where
   pub v0 : v .v0 < 256
@@ -54,28 +33,6 @@ pub record Bytes (v : Values) : Type 0 where
   pub v5 : v .v5 < 256
   pub v6 : v .v6 < 256
   pub v7 : v .v7 < 256
-
--- ---- unquantised values are bytes
-byteTest : ℕ → Bool
-unfolding ranges rangeOf levels spelt tritRows quintRows copies repeated byRow unquantise endpointValue
-byteTest q = all (λ (v : ℕ). ltb (endpointValue q v) 256) (levels (rangeOf q))
-
-pub value-lt : (q v : ℕ) → q < 21 → v < levels (rangeOf q) → endpointValue q v < 256
-unfolding byteTest
-value-lt q v h l = ltb→lt (endpointValue q v) 256 (all-at (λ (v : ℕ). ltb (endpointValue q v) 256) (levels (rangeOf q)) (all-at byteTest 21 tt q h) v l)
-
-pub values-lt : (q : ℕ) (seq : List ℕ) → q < 21 → ((i : ℕ) → getD seq i 0 < levels (rangeOf q)) → (j : ℕ) → getD (endpointValues q seq) j 0 < 256
-unfolding endpointValues
-values-lt q seq h small j = go (decLt j 32)
-  where
-    f : ℕ → ℕ
-    f i = endpointValue q (getD seq i 0)
-
-    go : Dec (j < 32) → getD (listOf f 0 32) j 0 < 256
-    go (yes l) = rw (getD-listOf f 0 32 j l) (value-lt q (getD seq (0 + j) 0) h (small (0 + j)))
-    go (no l) =
-        let past : length (listOf f 0 32) ≤ j = rw (length-listOf f 0 32) (omega arith) in
-        rw (List·getD-eq-default (listOf f 0 32) 0 past) (lit< tt)
 
 -- ---- pairs
 within-cond : (t : Bool) {a b : Endpoints} → Within a → Within b → Within (cond t a b)

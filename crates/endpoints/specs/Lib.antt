@@ -1,13 +1,3 @@
-pub mod Patterns
-pub mod Unquantised
-pub mod Closed
-pub mod Colours
-pub mod Ldr
-pub mod LdrLaws
-pub mod Hdr
-pub mod HdrLaws
-pub mod Hdr11
-pub mod Hdr11Laws
 pub mod Endpoints
 pub mod EndpointLaws
 pub mod Bounds

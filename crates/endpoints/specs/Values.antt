@@ -3,18 +3,14 @@
 use mathlib.Core.Path.{_≡_, refl}
 use mathlib.Core.List.{List, [], _∷_}
 use Prim.Native.Nat.{ℕ}
-use Rattle.laws.specs.Lists.{listOf}
-use Rattle.sequence.specs.Ranges.{ranges, rangeOf}
-use Rattle.sequence.specs.Patterns.{copies, repeated, spelt}
-use Rattle.endpoints.specs.Patterns.{tritRows, quintRows}
-use Rattle.endpoints.specs.Unquantised.{byRow, unquantise, endpointValue}
-use Rattle.endpoints.specs.Colours.{rgba, ldr, nothing}
-use Rattle.endpoints.specs.Ldr.{baseOf, offsetOf, luminance, luminanceOffset, luminanceAlphaOffset, scaled, direct, offset}
-use Rattle.endpoints.specs.Hdr.{rgb, alphas, hdr, opaque, luminanceLarge, luminanceSmall, given, swapped, sevenRows, sevenShifts, sevenValue, sevenMajor, sevenMode, sevenPart, sevenOf, sevenLess, hdr7}
-use Rattle.endpoints.specs.Hdr11.{crateOffset, elevenRows, offsetBits, elevenMode, elevenMajor, elevenPart, under, elevenFirst, elevenSecond, hdr11, offsetAlphas, hdrAlphas}
-use Rattle.endpoints.specs.Endpoints.{byMode, endpointsOf, valuesAt, countTo, partitionEndpoints, endpointsList}
-use Rattle.endpoints.specs.declared.Mark.the-variants.{Hdr}
-use Rattle.endpoints.specs.declared.Endpoints.{Endpoints}
+use Rattle.colours.specs.Colours.{rgba, ldr, nothing}
+use Rattle.modes.specs.Ldr.{baseOf, offsetOf, luminance, luminanceOffset, luminanceAlphaOffset, scaled, direct, offset}
+use Rattle.hdr_numbers.specs.Hdr.{rgb, alphas, hdr, opaque, luminanceLarge, luminanceSmall, given, swapped, sevenRows, sevenShifts, sevenValue, sevenMajor, sevenMode, sevenPart, sevenOf, sevenLess, hdr7}
+use Rattle.hdr_numbers.specs.Hdr11.{crateOffset, elevenRows, offsetBits, elevenMode, elevenMajor, elevenPart, under, elevenFirst, elevenSecond, hdr11, offsetAlphas, hdrAlphas}
+use Rattle.modes.specs.Modes.{byMode, endpointsOf}
+use Rattle.endpoints.specs.Endpoints.{valuesAt, countTo, partitionEndpoints, endpointsList}
+use Rattle.colours.specs.declared.Mark.the-variants.{Hdr}
+use Rattle.colours.specs.declared.Endpoints.{Endpoints}
 
 -- the endpoints of a mode of a list of values
 pub ofList : ℕ → List ℕ → Endpoints
@@ -28,10 +24,6 @@ pub record Values : Type 0 where
   pub P12-base : baseOf 255 255 ≡ 255
   pub P12-least : offsetOf 0x40 ≡ 0
   pub P12-zero : baseOf 0x40 0 ≡ 0
-  -- whole ranges: 0..5, 0..9, and three plain bits
-  pub trits : listOf (endpointValue 4) 0 6 ≡ 0 ∷ 255 ∷ 51 ∷ 204 ∷ 102 ∷ 153 ∷ []
-  pub quints : listOf (endpointValue 6) 0 10 ≡ 0 ∷ 255 ∷ 28 ∷ 227 ∷ 56 ∷ 199 ∷ 84 ∷ 171 ∷ 113 ∷ 142 ∷ []
-  pub plain : listOf (endpointValue 5) 0 8 ≡ 0 ∷ 36 ∷ 73 ∷ 109 ∷ 146 ∷ 182 ∷ 219 ∷ 255 ∷ []
   -- mode 9, contracted: the first blue is 286 before the clamp
   pub clamp-9 : ofList 9 (0 ∷ 64 ∷ 0 ∷ 64 ∷ 255 ∷ 190 ∷ []) ≡ ldr (rgba 127 127 255 255) (rgba 127 127 255 255)
   -- mode 8 where the first sum is larger: swapped and contracted
@@ -48,5 +40,5 @@ pub record Values : Type 0 where
   pub partitions : endpointsList 2 (0 ∷ 8 ∷ 0 ∷ 0 ∷ []) (10 ∷ 20 ∷ 1 ∷ 2 ∷ 3 ∷ 4 ∷ 5 ∷ 6 ∷ []) ≡ ldr (rgba 10 10 10 255) (rgba 20 20 20 255) ∷ ldr (rgba 1 3 5 255) (rgba 2 4 6 255) ∷ nothing ∷ nothing ∷ []
 
 pub values : Values
-unfolding listOf ranges rangeOf spelt tritRows quintRows copies repeated byRow unquantise endpointValue baseOf offsetOf luminance luminanceOffset luminanceAlphaOffset scaled direct offset luminanceLarge luminanceSmall given swapped sevenRows sevenShifts sevenValue sevenMajor sevenMode sevenPart sevenOf sevenLess hdr7 crateOffset elevenRows offsetBits elevenMode elevenMajor elevenPart under elevenFirst elevenSecond hdr11 offsetAlphas hdrAlphas byMode endpointsOf valuesAt countTo partitionEndpoints endpointsList ofList
-values = record { P11 = refl; P12-offset = refl; P12-base = refl; P12-least = refl; P12-zero = refl; trits = refl; quints = refl; plain = refl; clamp-9 = refl; contracted-8 = refl; scale-7 = refl; direct-7 = refl; offset-11 = refl; alpha-15 = refl; partitions = refl }
+unfolding baseOf offsetOf luminance luminanceOffset luminanceAlphaOffset scaled direct offset luminanceLarge luminanceSmall given swapped sevenRows sevenShifts sevenValue sevenMajor sevenMode sevenPart sevenOf sevenLess hdr7 crateOffset elevenRows offsetBits elevenMode elevenMajor elevenPart under elevenFirst elevenSecond hdr11 offsetAlphas hdrAlphas byMode endpointsOf valuesAt countTo partitionEndpoints endpointsList ofList
+values = record { P11 = refl; P12-offset = refl; P12-base = refl; P12-least = refl; P12-zero = refl; clamp-9 = refl; contracted-8 = refl; scale-7 = refl; direct-7 = refl; offset-11 = refl; alpha-15 = refl; partitions = refl }

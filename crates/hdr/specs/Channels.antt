@@ -4,8 +4,8 @@ use mathlib.Core.List.{List, [], _∷_}
 use Prim.Native.Nat.{ℕ, _+_, _<_}
 use lib.ListN.{getD}
 use Rattle.blend.specs.Blend.{hdrChannel, wordOf}
-use Rattle.endpoints.specs.Colours.{nothing}
-use Rattle.endpoints.specs.declared.Endpoints.{Endpoints}
+use Rattle.colours.specs.Colours.{nothing}
+use Rattle.colours.specs.declared.Endpoints.{Endpoints}
 use Rattle.hdr.specs.declared.Numbers.{Numbers}
 
 -- numbers of 12 bits

@@ -10,11 +10,11 @@ use borrow.Author.Tests.{lt-ltb}
 use Rattle.laws.specs.Lists.{put, put-same, zeros-at}
 use Rattle.half.specs.Half.{hdrByteOf}
 use Rattle.blend.specs.Blend.{between, halfOf, hdrChannel, wordOf}
-use Rattle.endpoints.specs.Bounds.{Within, limit}
-use Rattle.endpoints.specs.Colours.{nothing}
-use Rattle.endpoints.specs.declared.Mark.{Mark}
-use Rattle.endpoints.specs.declared.Mark.the-variants.{Ldr, Hdr}
-use Rattle.endpoints.specs.declared.Endpoints.{Endpoints}
+use Rattle.colours.specs.Bounds.{Within, limit}
+use Rattle.colours.specs.Colours.{nothing}
+use Rattle.colours.specs.declared.Mark.{Mark}
+use Rattle.colours.specs.declared.Mark.the-variants.{Ldr, Hdr}
+use Rattle.colours.specs.declared.Endpoints.{Endpoints}
 use Rattle.texels.specs.Texels.{channelBy, wordBy, texelWord, halfAt, eights}
 use Rattle.texels.specs.Given.{Given}
 use Rattle.texels.specs.Kinds.{startsOf, AllOf}

@@ -9,11 +9,11 @@ use native.Mathlib.Omega.{arith}
 use lib.Dec.{eqb}
 use lib.ListN.{getD, set}
 use Rattle.laws.specs.Lists.{put}
-use Rattle.endpoints.specs.Bounds.{Within, limit}
-use Rattle.endpoints.specs.Colours.{nothing}
-use Rattle.endpoints.specs.declared.Mark.{Mark}
-use Rattle.endpoints.specs.declared.Mark.the-variants.{Ldr}
-use Rattle.endpoints.specs.declared.Endpoints.{Endpoints}
+use Rattle.colours.specs.Bounds.{Within, limit}
+use Rattle.colours.specs.Colours.{nothing}
+use Rattle.colours.specs.declared.Mark.{Mark}
+use Rattle.colours.specs.declared.Mark.the-variants.{Ldr}
+use Rattle.colours.specs.declared.Endpoints.{Endpoints}
 use Rattle.texels.specs.Texels.{channelBy, wordBy, planeOf, texelWord, halfAt, eights}
 use Rattle.texels.specs.Given.{Given}
 use Rattle.texels.specs.Kinds.{startsOf, wordAt, kindOf, AllOf, eitherOf}

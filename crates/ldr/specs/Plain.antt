@@ -5,8 +5,8 @@ use mathlib.Core.List.{List}
 use Prim.Native.Nat.{ℕ, _+_, _*_, _≤_}
 use lib.ListN.{getD}
 use Rattle.blend.specs.Blend.{ldrChannel}
-use Rattle.endpoints.specs.declared.Mark.the-variants.{Ldr}
-use Rattle.endpoints.specs.declared.Endpoints.{Endpoints}
+use Rattle.colours.specs.declared.Mark.the-variants.{Ldr}
+use Rattle.colours.specs.declared.Endpoints.{Endpoints}
 use Rattle.texels.specs.Texels.{wordBy}
 use Rattle.texels.specs.declared.Starts.{Starts}
 use Rattle.ldr.specs.declared.Weights.{Weights}

@@ -2,8 +2,8 @@
 // A request is 32 bytes: what is asked for, up to fifteen numbers, and a block. An answer is 288 bytes; what a request
 // does not fill is 0, and so is all of it where the numbers are out of bounds.
 use bits::Block;
-use endpoints::Endpoints;
-use endpoints::Mark;
+use colours::Endpoints;
+use colours::Mark;
 use libc::STDOUT_FILENO;
 use params::Config;
 use params::Map;
@@ -286,7 +286,7 @@ fn put_partitions(out: &mut [u8; 288], parts: usize, modes: [u8; 4], q: usize, n
 {
     let seq = values_of(b, q, n, offset_of(parts), false);
     let mut ev = [0u8; 32];
-    endpoints::unquantize(&mut ev, n, q, &seq);
+    unquantise::unquantize(&mut ev, n, q, &seq);
     let e = endpoints::decode_endpoints(parts, modes, &ev);
     put_endpoints(out, 0, e[0]);
     put_endpoints(out, 18, e[1]);

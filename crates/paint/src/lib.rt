@@ -5,8 +5,8 @@ ghost use Rattle.laws.specs.Lists.{put};
 ghost use Rattle.texels.specs.Texels.{texelWord, halfAt, eights};
 ghost use Rattle.texels.specs.Given.{Given};
 ghost use Rattle.texels.specs.Kinds.{kindOf, AllOf};
-use endpoints::Endpoints;
-use endpoints::Mark;
+use colours::Endpoints;
+use colours::Mark;
 use texels::starts_of;
 
 mod mixed;

@@ -3,12 +3,12 @@ ghost use mathlib.Core.Path.{_≡_};
 ghost use Prim.Native.Nat.{ℕ, _*_, _/_, _%_, _≤_, _<_};
 ghost use lib.ListN.{getD};
 ghost use Rattle.laws.specs.Lists.{put};
-ghost use Rattle.endpoints.specs.Bounds.{Within, limit};
-ghost use Rattle.endpoints.specs.Colours.{nothing};
+ghost use Rattle.colours.specs.Bounds.{Within, limit};
+ghost use Rattle.colours.specs.Colours.{nothing};
 ghost use Rattle.texels.specs.Texels.{channelBy, wordBy, halfAt, eights};
 ghost use Rattle.texels.specs.Kinds.{Ahead, wordAt};
-use endpoints::Endpoints;
-use endpoints::Mark;
+use colours::Endpoints;
+use colours::Mark;
 use texels::Starts;
 use texels::hdr_channel;
 

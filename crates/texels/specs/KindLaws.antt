@@ -7,10 +7,10 @@ use Prim.Native.Nat.{ℕ, zero, suc, _<_}
 use native.Mathlib.Omega.{arith}
 use lib.Dec.{eqb}
 use lib.ListN.{getD}
-use Rattle.endpoints.specs.Colours.{nothing}
-use Rattle.endpoints.specs.declared.Mark.{Mark}
-use Rattle.endpoints.specs.declared.Mark.the-variants.{Ldr, Hdr}
-use Rattle.endpoints.specs.declared.Endpoints.{Endpoints}
+use Rattle.colours.specs.Colours.{nothing}
+use Rattle.colours.specs.declared.Mark.{Mark}
+use Rattle.colours.specs.declared.Mark.the-variants.{Ldr, Hdr}
+use Rattle.colours.specs.declared.Endpoints.{Endpoints}
 use Rattle.texels.specs.Kinds.{kindBy, eitherOf, anyOf}
 
 -- ---- kinds

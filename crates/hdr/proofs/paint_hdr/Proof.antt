@@ -1,5 +1,5 @@
 -- Each channel is that of the definition, and so are the words.
-use Rattle.endpoints.specs.declared.Endpoints.{Endpoints}
+use Rattle.colours.specs.declared.Endpoints.{Endpoints}
 use Rattle.hdr.specs.HdrLaws.{numbers-wide, as-hdr}
 use borrow.Author.Needs.{needs}
 use Rattle.hdr.proofs.paint_hdr.Statement.{statement}

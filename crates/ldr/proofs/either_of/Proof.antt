@@ -1,5 +1,5 @@
 -- Each number is that of the endpoints picked.
-use Rattle.endpoints.specs.declared.Endpoints.{Endpoints}
+use Rattle.colours.specs.declared.Endpoints.{Endpoints}
 use Rattle.texels.specs.KindLaws.{either-field}
 use Rattle.ldr.specs.LdrLaws.{numbers-of}
 use borrow.Author.Needs.{needs}

@@ -2,7 +2,7 @@
 use mathlib.Core.Path.{_≡_, sym}
 use lib.ListN.{getD}
 use borrow.Author.Needs.{needs}
-use Rattle.endpoints.specs.Colours.{nothing}
+use Rattle.colours.specs.Colours.{nothing}
 use Prim.Native.Nat.{ℕ, _-_, _≤_, _<_}
 use borrow.Author.Count.{below-more}
 use Rattle.texels.specs.Kinds.{kindOf, AllOf}

@@ -3,7 +3,7 @@ use mathlib.Core.Path.{_≡_}
 use Prim.Native.Nat.{ℕ, _*_, _-_, _≤_, _<_, zero-le}
 use lib.ListN.{getD}
 use Rattle.laws.specs.Lists.{put, put-none}
-use Rattle.endpoints.specs.Colours.{nothing}
+use Rattle.colours.specs.Colours.{nothing}
 use Rattle.texels.specs.Texels.{halfAt, eights}
 use Rattle.texels.specs.Kinds.{wordAt}
 use Rattle.texels.specs.PaintLaws.{word-stores}

@@ -1,0 +1,4 @@
+pub mod Ldr
+pub mod LdrLaws
+pub mod Modes
+pub mod ModeLaws

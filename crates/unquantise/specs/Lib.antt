@@ -1,0 +1,5 @@
+pub mod Patterns
+pub mod Unquantised
+pub mod Closed
+pub mod Bounds
+pub mod Values
