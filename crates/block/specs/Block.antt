@@ -21,7 +21,7 @@ use Rattle.weights.specs.Infill.{weightsOf}
 use Rattle.weights.specs.declared.Grid.{Grid}
 use Rattle.partition.specs.Partition.{partitionAt}
 use Rattle.blend.specs.Blend.{wordOf}
-use Rattle.texels.specs.Texels.{texelWord}
+use Rattle.texels.specs.Texels.{texelWord, halfAt, eights}
 use Rattle.block.specs.declared.BlockMap.{BlockMap}
 
 -- ---- a legal block, of its parameters p and two more fields
@@ -110,6 +110,10 @@ unfoldable pub blockMap : List ℕ → ℕ → ℕ → BlockMap
 blockMap s bw bh = let a = mapAnswer s bw bh in reportOf a (cond (eqb a 0) (paramsOf (bytes 16 s) bw bh .map) noMap)
 
 -- ---- the code's steps
+-- the halves h with those of a legal block's words, to the next multiple of 8 texels
+unfoldable pub halvesOf : ℕ → ℕ → ℕ → List ℕ → List ℕ
+halvesOf v bw bh h = cond (eqb (paramsOf v bw bh .answer) 0) (put (halfAt (blockWord v bw bh)) 0 (2 * eights (bw * bh)) h) h
+
 -- the word of texel i whose halves stand in h
 abbrev pub joinedAt : List ℕ → ℕ → ℕ
 joinedAt h i = getD h (2 * i) 0 + 65536 * getD h (2 * i + 1) 0

@@ -17,7 +17,8 @@ use Rattle.params.specs.declared.Judged.{Judged}
 use Rattle.params.specs.Laws.{answer-is}
 use Rattle.texels.specs.Texels.{halfAt, eights}
 use Rattle.texels.specs.PaintLaws.{half-low, half-high}
-use Rattle.block.specs.Block.{blockWord, answerOf, paintedOf, mapAnswer, reportOf, blockMap, joinedAt}
+use Rattle.block.specs.Block.{blockWord, answerOf, paintedOf, mapAnswer, reportOf, blockMap, halvesOf, joinedAt}
+use Rattle.block.specs.Parts.{halves-put}
 
 -- ---- a block's answer is below every refusal
 choice : (b : Bool) (x y : ℕ) → x < 20 → y < 20 → cond b x y < 20
@@ -61,6 +62,19 @@ joined-is f n i s z h l =
     let high = put-in (halfAt f) 0 (2 * eights n) s (2 * i + 1) (omega (arith, z)) zero-le (omega arith) ∙ half-high f i in
     rw (low, high) (omega arith)
 
+-- a legal block's
+pub joined-legal : (v bw bh i : ℕ) (s h : List ℕ) → length s ≡ 288 → bw * bh ≤ 144 → i < bw * bh → paramsOf v bw bh .answer ≡ 0 → h ≡ halvesOf v bw bh s → joinedAt h i ≡ blockWord v bw bh i
+joined-legal v bw bh i s h l n k z e = ap (λ (x : List ℕ). joinedAt x i) (halves-put v bw bh s h z e) ∙ joined-is (blockWord v bw bh) (bw * bh) i s l n k
+
+-- ---- the words painted
+module _ (v bw bh : ℕ) (s out : List ℕ) where
+  pub words-one : (w : ℕ) → ((t : ℕ) → w ≡ blockWord v bw bh t) → out ≡ put (λ (t : ℕ). w) 0 (bw * bh) s → out ≡ put (blockWord v bw bh) 0 (bw * bh) s
+  words-one w e d = d ∙ put-same _ _ 0 (bw * bh) s (λ k a b. e k)
+
+  pub words-joined : (h : List ℕ) → bw * bh ≤ 144 → paramsOf v bw bh .answer ≡ 0 → h ≡ halvesOf v bw bh (replicate 288 0) → out ≡ put (joinedAt h) 0 (bw * bh) s
+      → out ≡ put (blockWord v bw bh) 0 (bw * bh) s
+  words-joined h n z e d = d ∙ put-same _ _ 0 (bw * bh) s (λ k a b. joined-legal v bw bh k _ h (length-replicate {A = ℕ} 288 0) n b z e)
+
 -- ---- the ways out
 module _ (s : List ℕ) (bw bh : ℕ) (out : List ℕ) where
   pub not-sixteen : (length s ≡ 16 → ⊥) → (20 ≡ answerOf s bw bh (length out)) × (out ≡ paintedOf s bw bh out)
@@ -75,15 +89,12 @@ module _ (s : List ℕ) (bw bh : ℕ) (out : List ℕ) where
   unfolding answerOf paintedOf
   no-room h l r = rw (eq-eqb (length s) 16 h, l, lt-ltb (length out) (bw * bh) r) (refl, refl)
 
-  module _ (v a : ℕ) (h now : List ℕ) where
-    pub painted : length s ≡ 16 → listed bw bh ≡ true → bw * bh ≤ length out → bw * bh ≤ 144 → v ≡ bytes 16 s → a ≡ paramsOf v bw bh .answer
-        → h ≡ put (halfAt (blockWord v bw bh)) 0 (2 * eights (bw * bh)) (replicate 288 0) → now ≡ put (joinedAt h) 0 (bw * bh) out
-        → (a ≡ answerOf s bw bh (length out)) × (now ≡ paintedOf s bw bh out)
-    unfolding answerOf paintedOf
-    painted l f r n e b d w =
-        let t : ltb (paramsOf (bytes 16 s) bw bh .answer) 20 ≡ true = lt-ltb (paramsOf (bytes 16 s) bw bh .answer) 20 (rw (answer-is (bytes 16 s) bw bh) (answer-lt (lowOf (bytes 16 s)) bw bh)) in
-        rw (eq-eqb (length s) 16 l, f, le-ltb (length out) (bw * bh) r, t, sym e)
-        (b, w ∙ rw d (put-same _ _ 0 (bw * bh) out (λ k x y. joined-is (blockWord v bw bh) (bw * bh) k _ (length-replicate {A = ℕ} 288 0) n y)))
+  pub painted : (v a : ℕ) (now : List ℕ) → length s ≡ 16 → listed bw bh ≡ true → bw * bh ≤ length out → v ≡ bytes 16 s
+      → (a ≡ paramsOf v bw bh .answer) × (now ≡ put (blockWord v bw bh) 0 (bw * bh) out) → (a ≡ answerOf s bw bh (length out)) × (now ≡ paintedOf s bw bh out)
+  unfolding answerOf paintedOf
+  painted v a now l f r e d =
+      let t : ltb (paramsOf (bytes 16 s) bw bh .answer) 20 ≡ true = lt-ltb (paramsOf (bytes 16 s) bw bh .answer) 20 (rw (answer-is (bytes 16 s) bw bh) (answer-lt (lowOf (bytes 16 s)) bw bh)) in
+      rw (eq-eqb (length s) 16 l, f, le-ltb (length out) (bw * bh) r, t, sym e) d
 
 -- ---- the ways out of the map
 -- a block that is not legal has no fields

@@ -11,10 +11,9 @@ use lib.ListN.{length}
 use borrow.Author.Tests.{eq-eqb, ne-eqb, lt-ltb, le-ltb}
 use Rattle.laws.specs.Lists.{put, put-same}
 use Rattle.bits.specs.Bits.{bitsAt, bytes}
-use Rattle.bits.specs.BitLaws.{locality}
 use Rattle.params.specs.Blocks.{listed, answer, lowOf, paramsOf}
-use Rattle.params.specs.Config.{isVoid, isReserved, confLen}
-use Rattle.params.specs.Laws.{answer-is, answer-1, answer-10, conf-least}
+use Rattle.params.specs.Config.{isVoid, isReserved}
+use Rattle.params.specs.Laws.{answer-is, answer-1, answer-10, low-bits-are}
 use Rattle.block.specs.Block.{voidWord, magenta, wordOfParams, blockWord, answerOf, paintedOf}
 
 -- ---- what is stated
@@ -36,13 +35,6 @@ Void v = bitsAt v 0 9 ≡ 0x1fc
 -- bits 0 to 3 all 0, or bits 0 and 1 both 0 with bits 6, 7, 8 all 1
 abbrev pub Reserved : ℕ → Type 0
 Reserved v = (bitsAt v 0 4 ≡ 0) ⊎ ((bitsAt v 0 2 ≡ 0) × (bitsAt v 6 3 ≡ 7))
-
--- ---- the first bits of a block are those of its low configuration
-low-bits-are : (v s n : ℕ) → s + n ≤ 17 → bitsAt (lowOf v) s n ≡ bitsAt v s n
-unfolding lowOf
-low-bits-are v s n h =
-    let p = bitsAt v 11 2 + 1 in
-    sym (locality v 0 (confLen p) s n (omega (arith, conf-least p))) ∙ ap (λ (k : ℕ). bitsAt v k n) (omega arith)
 
 void-is : (v : ℕ) → Void v → isVoid (lowOf v) ≡ true
 unfolding isVoid

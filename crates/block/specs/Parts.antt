@@ -8,16 +8,18 @@ use native.Mathlib.Decide.{decLt}
 use native.Mathlib.Omega.{arith}
 use mathlib.Core.Bool.{Bool, true, false, cond}
 use lib.Dec.{eqb, ltb}
-use lib.ListN.{getD, replicate, getD-replicate, length-replicate, List·getD-eq-default}
+use lib.ListN.{getD, length, replicate, getD-replicate, length-replicate, List·getD-eq-default}
 use borrow.Author.Tests.{eq-eqb, ne-eqb, eqb-false, lt-ltb, le-ltb}
-use Rattle.laws.specs.Lists.{put, put-same, listOf, put-zeros, getD-listOf, length-listOf}
+use Rattle.laws.specs.Lists.{put, put-same, length-put, listOf, put-zeros, getD-listOf, length-listOf}
 use Rattle.bits.specs.Bits.{bitsAt, reversed}
 use Rattle.sequence.specs.Ranges.{rangeOf, levels, most}
 use Rattle.sequence.specs.Sequence.{totalOf, valuesOf}
 use Rattle.sequence.specs.SequenceLaws.{legal, values-lt, values-past}
 use Rattle.sequence.specs.declared.Range.{Range}
 use Rattle.half.specs.Half.{voidByteOf}
-use Rattle.params.specs.Blocks.{paramsOf}
+use Rattle.params.specs.Blocks.{lowOf, paramsOf}
+use Rattle.params.specs.Config.{isVoid}
+use Rattle.params.specs.Laws.{answer-is, answer-1, void-low, void-alone}
 use Rattle.params.specs.declared.Params.{Params}
 use Rattle.unquantise.specs.Unquantised.{endpointValues}
 use Rattle.unquantise.specs.Bounds.{values-lt as endpoint-values-lt}
@@ -32,9 +34,9 @@ use Rattle.weights.specs.Infill.{weightsOf}
 use Rattle.partition.specs.Partition.{partitionAt}
 use Rattle.partition.specs.PartitionLaws.{partition-below}
 use Rattle.texels.specs.Given.{Given as PaintGiven}
-use Rattle.texels.specs.Texels.{texelWord, halfAt}
+use Rattle.texels.specs.Texels.{texelWord, halfAt, eights}
 use Rattle.blend.specs.Blend.{wordOf}
-use Rattle.block.specs.Block.{endsOf, endsField, gridOf, countOf, weightsIn, weightsField, partitionsIn, ordinaryWord, voidWord, wordOfParams, blockWord}
+use Rattle.block.specs.Block.{endsOf, endsField, gridOf, countOf, weightsIn, weightsField, partitionsIn, ordinaryWord, voidWord, wordOfParams, blockWord, halvesOf}
 use Rattle.block.specs.Facts.{Facts}
 
 -- ---- a range that a call is given
@@ -148,21 +150,46 @@ pub painted-is : (p : Params) (v bw bh e : ℕ) (ends : List Endpoints) (w map s
 unfolding ordinaryWord
 painted-is p v bw bh e ends w map s out a b c d = d ∙ rw (a, b, c)
 
--- ---- the halves of a block of any kind
-module _ (p : Params) (v bw bh e : ℕ) (s out : List ℕ) (q : p ≡ paramsOf v bw bh) where
-  half-words : (g : ℕ → ℕ) → ((t : ℕ) → g t ≡ wordOfParams p v bw bh t) → out ≡ put (halfAt g) 0 e s → out ≡ put (halfAt (blockWord v bw bh)) 0 e s
-  unfolding blockWord halfAt
-  half-words g same d =
-      d ∙ put-same _ _ 0 e s (λ k a b. ap (λ (x : ℕ). cond (eqb (k % 2) 0) (x % 65536) (x / 65536)) (same (k / 2) ∙ ap (λ (r : Params). wordOfParams r v bw bh (k / 2)) q))
+-- ---- the words of a block of each kind
+module _ (p : Params) (v bw bh : ℕ) (q : p ≡ paramsOf v bw bh) where
+  word-ordinary : p .answer ≡ 0 → (t : ℕ) → ordinaryWord p v bw bh t ≡ blockWord v bw bh t
+  unfolding blockWord wordOfParams
+  word-ordinary z t = rw (← q, eq-eqb (p .answer) 0 z)
 
-  pub halves-ordinary : p .answer ≡ 0 → out ≡ put (halfAt (ordinaryWord p v bw bh)) 0 e s → out ≡ put (halfAt (blockWord v bw bh)) 0 e s
-  unfolding wordOfParams
-  halves-ordinary z d = half-words (ordinaryWord p v bw bh) (λ t. rw (eq-eqb (p .answer) 0 z)) d
+  -- the code has painted the halves of a legal block's words, or none
+  pub halves-legal : (s out : List ℕ) → p .answer ≡ 0 → out ≡ put (halfAt (ordinaryWord p v bw bh)) 0 (2 * eights (bw * bh)) s → out ≡ halvesOf v bw bh s
+  unfolding halvesOf halfAt
+  halves-legal s out z d =
+      rw (← q, eq-eqb (p .answer) 0 z)
+      (d ∙ put-same _ _ 0 (2 * eights (bw * bh)) s (λ k a b. ap (λ (x : ℕ). cond (eqb (k % 2) 0) (x % 65536) (x / 65536)) (word-ordinary z (k / 2))))
 
-  pub halves-void : (w : ℕ) → p .answer ≡ 1 → w ≡ voidWord v → out ≡ put (halfAt (λ (t : ℕ). w)) 0 e s → out ≡ put (halfAt (blockWord v bw bh)) 0 e s
-  unfolding wordOfParams
-  halves-void w z x d = half-words (λ (t : ℕ). w) (λ t. x ∙ rw z) d
+  pub halves-none : (s : List ℕ) → (p .answer ≡ 0 → ⊥) → s ≡ halvesOf v bw bh s
+  unfolding halvesOf
+  halves-none s n = rw (← q, ne-eqb (p .answer) 0 n)
 
-  pub halves-refused : (p .answer ≡ 0 → ⊥) → (p .answer ≡ 1 → ⊥) → out ≡ put (halfAt (λ (t : ℕ). 0xffff00ff)) 0 e s → out ≡ put (halfAt (blockWord v bw bh)) 0 e s
-  unfolding wordOfParams
-  halves-refused y z d = half-words (λ (t : ℕ). 0xffff00ff) (λ t. rw (ne-eqb (p .answer) 0 y, ne-eqb (p .answer) 1 z)) d
+module _ (v bw bh : ℕ) where
+  pub halves-put : (s out : List ℕ) → paramsOf v bw bh .answer ≡ 0 → out ≡ halvesOf v bw bh s → out ≡ put (halfAt (blockWord v bw bh)) 0 (2 * eights (bw * bh)) s
+  unfolding halvesOf
+  halves-put s out z e = e ∙ rw (eq-eqb (paramsOf v bw bh .answer) 0 z)
+
+  -- they have the length of those before
+  pub halves-length : (n : ℕ) (s h : List ℕ) → length s ≡ n → h ≡ halvesOf v bw bh s → length h ≡ n
+  unfolding halvesOf
+  halves-length n s h l e = ap length e ∙ go (eqb (paramsOf v bw bh .answer) 0) ∙ l
+    where
+      go : (t : Bool) → length (cond t (put (halfAt (blockWord v bw bh)) 0 (2 * eights (bw * bh)) s) s) ≡ length s
+      go true = length-put (halfAt (blockWord v bw bh)) 0 (2 * eights (bw * bh)) s
+      go false = refl
+
+  -- a void block answers 1 in its one colour
+  pub answer-void : isVoid v ≡ true → paramsOf v bw bh .answer ≡ 1
+  answer-void h = answer-is v bw bh ∙ answer-1 (lowOf v) bw bh (void-low v ∙ h)
+
+  pub word-void : isVoid v ≡ true → (t : ℕ) → voidWord v ≡ blockWord v bw bh t
+  unfolding blockWord wordOfParams
+  word-void h t = rw (answer-void h)
+
+  -- and any other that is not legal is magenta
+  pub word-refused : isVoid v ≡ false → (paramsOf v bw bh .answer ≡ 0 → ⊥) → (t : ℕ) → 0xffff00ff ≡ blockWord v bw bh t
+  unfolding blockWord wordOfParams
+  word-refused h n t = rw (ne-eqb (paramsOf v bw bh .answer) 0 n, ne-eqb (paramsOf v bw bh .answer) 1 (void-alone v bw bh h))

@@ -17,6 +17,7 @@ use Rattle.sequence.specs.Ranges.{rangeOf}
 use Rattle.sequence.specs.Sequence.{totalOf, valuesOf}
 use Rattle.sequence.specs.declared.Range.{Range}
 use Rattle.half.specs.Half.{half, productOf, hdrByteOf, voidByteOf}
+use Rattle.params.specs.Config.{isVoid}
 use Rattle.params.specs.Blocks.{listed, paramsOf, judgedOf}
 use Rattle.params.specs.declared.Judged.{Judged}
 use Rattle.params.specs.declared.Params.{Params}
@@ -37,7 +38,7 @@ use Rattle.blend.specs.Blend.{ldrChannel, hdrChannel, wordOf}
 use Rattle.texels.specs.Texels.{texelWord, halfAt, eights}
 use Rattle.texels.specs.Kinds.{startsOf, Ahead, eitherOf, anyOf}
 use Rattle.texels.specs.declared.Starts.{Starts}
-use Rattle.block.specs.Block.{blockWord, joinedAt, answerOf, paintedOf, blockMap}
+use Rattle.block.specs.Block.{voidWord, halvesOf, joinedAt, answerOf, paintedOf, blockMap}
 use Rattle.block.specs.declared.BlockMap.{BlockMap}
 
 -- ---- what is stated
@@ -129,6 +130,9 @@ pub f16-to-u8 : (h : ℕ) → Tight ℕ (λ r. r ≡ voidByteOf h)
 f16-to-u8 h = one ℕ (voidByteOf h)
 
 -- ---- params
+pub is-void : (b : Block) → Tight Bool (λ r. r ≡ isVoid (valueOf b))
+is-void b = one Bool (isVoid (valueOf b))
+
 pub is-listed : (w h : ℕ) → Tight Bool (λ r. r ≡ listed w h)
 is-listed w h = one Bool (listed w h)
 
@@ -206,8 +210,11 @@ paint-hdr = applicate-color
 
 -- ---- block
 pub decode-halves : (b : Block) (bw bh : ℕ) (s : List ℕ)
-    → TightBoth ℕ (List ℕ) (λ a out. (a ≡ paramsOf (valueOf b) bw bh .answer) × (out ≡ put (halfAt (blockWord (valueOf b) bw bh)) 0 (2 * eights (bw * bh)) s))
-decode-halves b bw bh s = both ℕ (List ℕ) (paramsOf (valueOf b) bw bh .answer) (put (halfAt (blockWord (valueOf b) bw bh)) 0 (2 * eights (bw * bh)) s)
+    → TightBoth ℕ (List ℕ) (λ a out. (a ≡ paramsOf (valueOf b) bw bh .answer) × (out ≡ halvesOf (valueOf b) bw bh s))
+decode-halves b bw bh s = both ℕ (List ℕ) (paramsOf (valueOf b) bw bh .answer) (halvesOf (valueOf b) bw bh s)
+
+pub void-color : (b : Block) → Tight ℕ (λ r. r ≡ voidWord (valueOf b))
+void-color b = one ℕ (voidWord (valueOf b))
 
 pub word : (h : List ℕ) (i : ℕ) → Tight ℕ (λ r. r ≡ joinedAt h i)
 word h i = one ℕ (joinedAt h i)

@@ -12,13 +12,16 @@ ghost use Rattle.params.specs.Blocks.{listed, noMap, paramsOf};
 ghost use Rattle.partition.specs.Ramps.{Sides};
 ghost use Rattle.blend.specs.Blend.{wordOf};
 ghost use Rattle.texels.specs.Texels.{halfAt, eights};
-ghost use Rattle.block.specs.Block.{endsOf, endsField, weightsIn, weightsField, partitionsIn, ordinaryWord, voidWord, blockWord, joinedAt, answerOf, paintedOf, reportOf, blockMap};
+ghost use Rattle.block.specs.Block.{endsOf, endsField, weightsIn, weightsField, partitionsIn, ordinaryWord, voidWord, blockWord, halvesOf, joinedAt, answerOf, paintedOf, reportOf, blockMap};
 ghost use Rattle.block.specs.Facts.{Facts, Footprint, Tables};
 use bits::Block;
 use colours::Endpoints;
 use params::Map;
 use params::Params;
 use weights::Grid;
+
+// What a block that breaks a rule is painted with.
+pub const MAGENTA: u32 = 0xffff_00ff;
 
 // The endpoints of a legal block's partitions.
 fn ends_of(
@@ -112,7 +115,7 @@ fn void_byte(b: Block, at: usize) -> u8
 }
 
 // The one colour of a void block.
-fn void_color(b: Block) -> u32
+pub fn void_color(b: Block) -> u32
     ensures { λ r. ⌜ r ≡ voidWord (valueOf b) ⌝ }
 {
     if bits::getbits(b, 9, 1) == 1 {
@@ -182,23 +185,7 @@ fn paint_ordinary(
     );
 }
 
-// Paints n texels with one word, in halves, to the next multiple of 8.
-fn fill(out: &mut [u16; 288], n: usize, word: u32)
-    requires { ⌜ n ≤ 144 ⌝ }
-    ensures { λ _. ⌜ now (out .exit) ≡ put (halfAt (λ (i : ℕ). word)) 0 (2 * eights n) (now (out .entry)) ⌝ }
-{
-    let low = (word % 65536) as u16;
-    let high = (word / 65536) as u16;
-    let m = (n + 7) / 8 * 8;
-    let mut i = 0;
-    while i < m {
-        out[2 * i] = low;
-        out[2 * i + 1] = high;
-        i += 1;
-    }
-}
-
-// Paints the halves of a block's words at a listed footprint, with lent tables, and gives the answer.
+// Puts the halves of a legal block's words at a listed footprint, with lent tables; any other block puts none. It gives the answer.
 pub fn decode_halves(
     rev: &[u8; 256],
     t: &[u16; 256],
@@ -209,7 +196,7 @@ pub fn decode_halves(
     out: &mut [u16; 288],
 ) -> usize
     requires { ⌜ Tables (now rev) (now t) (now q) × (listed bw bh ≡ true) ⌝ }
-    ensures { λ a. ⌜ (a ≡ paramsOf (valueOf b) bw bh .answer) × (now (out .exit) ≡ put (halfAt (blockWord (valueOf b) bw bh)) 0 (2 * eights (bw * bh)) (now (out .entry))) ⌝ }
+    ensures { λ a. ⌜ (a ≡ paramsOf (valueOf b) bw bh .answer) × (now (out .exit) ≡ halvesOf (valueOf b) bw bh (now (out .entry))) ⌝ }
 {
     let p = params::decode_block_params(b, bw, bh);
     let a = p.answer;
@@ -217,11 +204,6 @@ pub fn decode_halves(
         paint_ordinary(rev, t, q, b, p, bw, bh, out);
         return 0;
     }
-    if a == 1 {
-        fill(out, bw * bh, void_color(b));
-        return 1;
-    }
-    fill(out, bw * bh, 0xffff_00ff);
     a
 }
 
@@ -250,6 +232,45 @@ fn put_words(out: &mut [u32], n: usize, h: &[u16; 288])
     }
 }
 
+fn fill(out: &mut [u32], n: usize, word: u32)
+    requires { ⌜ n ≤ length (now out) ⌝ }
+    ensures { λ _. ⌜ now (out .exit) ≡ put (λ (k : ℕ). word) 0 n (now (out .entry)) ⌝ }
+{
+    let mut i = 0;
+    while i < n {
+        out[i] = word;
+        i += 1;
+    }
+}
+
+// Paints the words of a block at a listed footprint and gives the answer. The tables are made for a block that may be legal alone.
+fn decode_words(b: Block, bw: usize, bh: usize, out: &mut [u32]) -> usize
+    requires { ⌜ (listed bw bh ≡ true) × (bw * bh ≤ length (now out)) ⌝ }
+    ensures { λ a. ⌜ (a ≡ paramsOf (valueOf b) bw bh .answer) × (now (out .exit) ≡ put (blockWord (valueOf b) bw bh) 0 (bw * bh) (now (out .entry))) ⌝ }
+{
+    let n = bw * bh;
+    if params::is_void(b) {
+        fill(out, n, void_color(b));
+        return 1;
+    }
+    let mut h = [0u16; 288];
+    let a = decode_halves(
+        &bits::reversal(),
+        &sequence::trits(),
+        &sequence::quints(),
+        b,
+        bw,
+        bh,
+        &mut h,
+    );
+    if a == 0 {
+        put_words(out, n, &h);
+        return 0;
+    }
+    fill(out, n, MAGENTA);
+    a
+}
+
 // Paints the words of a block of sixteen bytes and gives the answer; a refusal leaves the output as it was.
 pub fn decode_astc_block(s: &[u8], bw: usize, bh: usize, out: &mut [u32]) -> usize
     ensures { λ a. ⌜ (a ≡ answerOf (now (s .entry)) bw bh (length (now (out .entry)))) × (now (out .exit) ≡ paintedOf (now (s .entry)) bw bh (now (out .entry))) ⌝ }
@@ -261,18 +282,7 @@ pub fn decode_astc_block(s: &[u8], bw: usize, bh: usize, out: &mut [u32]) -> usi
         if out.len() < bw * bh {
             return 22;
         }
-        let mut h = [0u16; 288];
-        let a = decode_halves(
-            &bits::reversal(),
-            &sequence::trits(),
-            &sequence::quints(),
-            bits::load(s),
-            bw,
-            bh,
-            &mut h,
-        );
-        put_words(out, bw * bh, &h);
-        return a;
+        return decode_words(bits::load(s), bw, bh, out);
     }
     21
 }

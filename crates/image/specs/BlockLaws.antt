@@ -1,6 +1,6 @@
 -- One block of an image, by what the block promises.
 -- Assumes nothing.
-use mathlib.Core.Path.{_≡_, refl, sym, ap, _∙_}
+use mathlib.Core.Path.{_≡_, sym, ap, _∙_}
 use mathlib.Core.Bool.{Bool, true, false, cond, _&&_, false≢true}
 use mathlib.Core.List.{List}
 use Prim.Native.Nat.{ℕ, suc, _+_, _-_, _*_, _/_, _%_, _≤_, _<_}
@@ -9,16 +9,13 @@ use native.Mathlib.Decide.{decLt}
 use native.Mathlib.Omega.{arith}
 use lib.Arith.{digits-lt}
 use lib.Dec.{leb, ltb}
-use lib.ListN.{length, take, drop, replicate, length-drop}
+use lib.ListN.{length, take, drop, length-drop}
 use lib.Seq.{length-take-le}
 use borrow.Author.Tests.{le-ltb, le-leb, lt-leb}
-use Rattle.laws.specs.Lists.{put}
 use Rattle.bits.specs.Bits.{bytes}
 use Rattle.params.specs.Blocks.{paramsOf}
-use Rattle.texels.specs.Texels.{halfAt, eights}
-use Rattle.block.specs.Block.{blockWord, joinedAt, mapAnswer}
-use Rattle.block.specs.Entry.{joined-is, map-answer}
-use Rattle.block.specs.Facts.{footprint}
+use Rattle.block.specs.Block.{blockWord, mapAnswer}
+use Rattle.block.specs.Entry.{map-answer}
 use Rattle.image.specs.Image.{alongOf, totalOf, pixelsOf, blockOf, texelOf, bytesOf, pixelWord, marked, isIn, paintedBlocks, badIn}
 use Rattle.image.specs.Given.{Sized}
 use Rattle.image.specs.Places.{Shaped, At, at-first}
@@ -55,23 +52,26 @@ module _ (d : List ℕ) (m : Shape) (places b n v a : ℕ) (s : Sized m (length 
   value-is : v ≡ bytes 16 (bytesOf d b)
   value-is = rw n16 at ev
 
-  pub bad-is : (r : ℕ) → r ≡ cond (leb 10 a) 1 0 → r ≡ cond (leb 10 (mapAnswer (bytesOf d b) (m .bw) (m .bh))) 1 0
-  bad-is r e =
+  answer-of : a ≡ mapAnswer (bytesOf d b) (m .bw) (m .bh)
+  answer-of =
       let l : length (bytesOf d b) ≡ 16 = bytes-length d (totalOf m) b (s .bytes) h in
-      e ∙ ap (λ (x : ℕ). cond (leb 10 x) 1 0) (ea ∙ ap (λ (x : ℕ). paramsOf x (m .bw) (m .bh) .answer) value-is ∙ sym (map-answer (bytesOf d b) (m .bw) (m .bh) l (s .footprint)))
+      ea ∙ ap (λ (x : ℕ). paramsOf x (m .bw) (m .bh) .answer) value-is ∙ sym (map-answer (bytesOf d b) (m .bw) (m .bh) l (s .footprint))
 
-  pub block-painted : (c : ℕ) (h halves now out : List ℕ) → length h ≡ 288 → b ≡ c → halves ≡ put (halfAt (blockWord v (m .bw) (m .bh))) 0 (2 * eights (m .bw * m .bh)) h
-      → now ≡ marked (isIn m c (c + 1)) (λ (k : ℕ). joinedAt halves (texelOf m k)) out → now ≡ paintedBlocks d m b (b + 1) out
+  -- painted with g, which has the block's words; the halves are still those of a block
+  pub block-painted : (c : ℕ) (g : ℕ → ℕ) (halves now out : List ℕ) → b ≡ c → length halves ≡ 288 → ((t : ℕ) → t < m .bw * m .bh → g t ≡ blockWord v (m .bw) (m .bh) t)
+      → now ≡ marked (isIn m c (c + 1)) (λ (k : ℕ). g (texelOf m k)) out
+      → (a ≡ mapAnswer (bytesOf d b) (m .bw) (m .bh)) × ((length halves ≡ 288) × (now ≡ paintedBlocks d m b (b + 1) out))
   unfolding paintedBlocks pixelWord
-  block-painted c h halves now out hl bc eh en =
-      en
-      ∙ marked-same (isIn m c (c + 1)) (isIn m b (b + 1)) _ (pixelWord d m) out (λ k. rw bc)
-      (λ k x.
-      let e : blockOf m k ≡ b = block-is m b k x in
-      let f = footprint (m .bw) (m .bh) (s .footprint) in
-      ap (λ (z : List ℕ). joinedAt z (texelOf m k)) eh
-      ∙ joined-is (blockWord v (m .bw) (m .bh)) (m .bw * m .bh) (texelOf m k) h hl (f .texels) (texel-lt m k (sized-shaped m (length d) places s))
-      ∙ ap (λ (z : ℕ). blockWord z (m .bw) (m .bh) (texelOf m k)) (value-is ∙ ap (λ (z : ℕ). bytes 16 (bytesOf d z)) (sym e)))
+  block-painted c g halves now out bc hl eg en = (answer-of, (hl, painted))
+    where
+      painted : now ≡ marked (isIn m b (b + 1)) (pixelWord d m) out
+      painted =
+          en
+          ∙ marked-same (isIn m c (c + 1)) (isIn m b (b + 1)) _ (pixelWord d m) out (λ k. rw bc)
+          (λ k x.
+          let e : blockOf m k ≡ b = block-is m b k x in
+          eg (texelOf m k) (texel-lt m k (sized-shaped m (length d) places s))
+          ∙ ap (λ (z : ℕ). blockWord z (m .bw) (m .bh) (texelOf m k)) (value-is ∙ ap (λ (z : ℕ). bytes 16 (bytesOf d z)) (sym e)))
 
 -- ---- block after block
 -- A loop over the blocks from first on to before end has come to block b, in column x and row y: out, which was s, has the blocks before b,
@@ -106,7 +106,7 @@ painting-first d m first end a s h z l e k n = record {
   painted = painted-none d m first s;
 }
 
-module _ (d : List ℕ) (m : Shape) (first end a : ℕ) (s out h : List ℕ) (x y bad b : ℕ) (p : Painting d m first end s a out h x y bad b) where
+module _ (d : List ℕ) (m : Shape) (first end across : ℕ) (s out h : List ℕ) (x y bad b : ℕ) (p : Painting d m first end s across out h x y bad b) where
   -- one block more
   more-bad : (r : ℕ) → r ≡ cond (leb 10 (mapAnswer (bytesOf d b) (m .bw) (m .bh))) 1 0 → bad + r ≡ badIn d m first (b + 1 - first)
   unfolding badIn
@@ -116,18 +116,18 @@ module _ (d : List ℕ) (m : Shape) (first end a : ℕ) (s out h : List ℕ) (x 
       let i : first + (b - first) ≡ b = omega arith in
       rw (t, p .count, f) (ap (λ (z : ℕ). badIn d m first (b - first) + cond (leb 10 (mapAnswer (bytesOf d z) (m .bw) (m .bh))) 1 0) (sym i))
 
-  pub painting-next : (u v : ℕ) → At m (b + 1) u v → b < end → (r : ℕ) (o k : List ℕ) → (r ≡ cond (leb 10 (mapAnswer (bytesOf d b) (m .bw) (m .bh))) 1 0) × (r ≤ 1)
-      → (length k ≡ 288) × (o ≡ paintedBlocks d m b (b + 1) out) → Painting d m first end s a o k u v (bad + r) (b + 1)
-  painting-next u v q l r o k f g = record {
+  pub painting-next : (u v : ℕ) → At m (b + 1) u v → b < end → (a r : ℕ) (o k : List ℕ) → (r ≡ cond (leb 10 a) 1 0) × (r ≤ 1)
+      → (a ≡ mapAnswer (bytesOf d b) (m .bw) (m .bh)) × ((length k ≡ 288) × (o ≡ paintedBlocks d m b (b + 1) out)) → Painting d m first end s across o k u v (bad + r) (b + 1)
+  painting-next u v q l a r o k f g = record {
     rows = p .rows;
     narrow = p .narrow;
-    halves = g .0;
+    halves = g .1 .0;
     place = q;
     from = omega (arith, p .from);
     to = omega arith;
-    count = more-bad r (f .0);
+    count = more-bad r (f .0 ∙ ap (λ (x : ℕ). cond (leb 10 x) 1 0) (g .0));
     few = omega (arith, p .few, f .1);
-    painted = g .1 ∙ ap (λ (z : List ℕ). paintedBlocks d m b (b + 1) z) (p .painted) ∙ painted-next d m first b (b + 1) s (p .from) (omega arith);
+    painted = g .1 .1 ∙ ap (λ (z : List ℕ). paintedBlocks d m b (b + 1) z) (p .painted) ∙ painted-next d m first b (b + 1) s (p .from) (omega arith);
   }
 
   -- after the last

@@ -3,7 +3,7 @@
 use mathlib.Core.Path.{_≡_, refl, sym, ap, _∙_}
 use mathlib.Core.Bool.{Bool, true, false, cond, _&&_}
 use mathlib.Core.List.{List}
-use Prim.Native.Nat.{ℕ, _+_, _-_, _*_, _/_, _%_, _≤_, _<_}
+use Prim.Native.Nat.{ℕ, zero, suc, _+_, _-_, _*_, _/_, _%_, _≤_, _<_}
 use native.Mathlib.Nat.{zero-add}
 use native.Mathlib.Decide.{decLt}
 use native.Mathlib.Omega.{arith}
@@ -13,8 +13,9 @@ use lib.Seq.{ext-getD}
 use borrow.Author.Tests.{eq-eqb, ne-eqb, eqb-true, lt-ltb, le-ltb, le-leb, lt-leb}
 use Rattle.laws.specs.Lists.{put, putAt, length-put, put-in, put-before, put-after, length-mapAt, getD-mapAt}
 use Rattle.image.specs.Image.{totalOf, pixelsOf, blockOf, texelOf, pixelWord, marked, isIn, paintedBlocks}
-use Rattle.image.specs.Places.{Shaped, rowAt, rowsOf, columnsOf, in-row, in-block}
+use Rattle.image.specs.Places.{Shaped, rowAt, rowsOf, columnsOf, windowOf, rowsPut, window-row, in-row, in-block}
 use Rattle.image.specs.declared.Shape.{Shape}
+use Rattle.image.specs.declared.Window.{Window}
 
 -- ---- marked places
 module _ (p : ℕ → Bool) (f : ℕ → ℕ) (s : List ℕ) where
@@ -52,6 +53,22 @@ marked-twice p q r f s h =
 pub length-putAt : (f : ℕ → ℕ) (o n : ℕ) (s : List ℕ) → length (putAt f o n s) ≡ length s
 unfolding putAt
 length-putAt f o n s = length-put (λ (k : ℕ). f (k - o)) o (o + n) s
+
+pub length-rowsPut : (g : ℕ → ℕ → ℕ) (at width n r : ℕ) (s : List ℕ) → length (rowsPut g at width n r s) ≡ length s
+unfolding rowsPut
+length-rowsPut g at width n zero s = refl
+length-rowsPut g at width n (suc r) s = length-putAt (g r) (at + r * width) n _ ∙ length-rowsPut g at width n r s
+
+pub rows-first : (g : ℕ → ℕ → ℕ) (at width n : ℕ) (s : List ℕ) → s ≡ rowsPut g at width n 0 s
+unfolding rowsPut
+rows-first g at width n s = refl
+
+pub rows-turn : (g : ℕ → ℕ → ℕ) (at width n r : ℕ) (s t u : List ℕ) → t ≡ rowsPut g at width n r s → u ≡ putAt (g r) (at + r * width) n t → u ≡ rowsPut g at width n (r + 1) s
+unfolding rowsPut
+rows-turn g at width n r s t u e d = let k : r + 1 ≡ suc r = omega arith in rw k (d ∙ ap (putAt (g r) (at + r * width) n) e)
+
+pub rows-last : (g : ℕ → ℕ → ℕ) (at width n r e : ℕ) (s t : List ℕ) → t ≡ rowsPut g at width n r s → r ≤ e → e ≤ r → t ≡ rowsPut g at width n e s
+rows-last g at width n r e s t d l k = let q : r ≡ e = omega arith in rw q at d
 
 -- ---- blocks one after the other
 -- a pixel of the image or not, of block b
@@ -189,3 +206,18 @@ module _ (m : Shape) (z : Shaped m) (b : ℕ) (h : b < totalOf m) where
 
   pub rows-end : (r : ℕ) (f : ℕ → ℕ) (s t : List ℕ) → t ≡ marked (isAbove m b r) f s → rowsOf m b ≤ r → t ≡ marked (isIn m b (b + 1)) f s
   rows-end r f s t e l = e ∙ marked-same (isAbove m b r) (isIn m b (b + 1)) f f s (λ k. above-all r k l) (λ k x. refl)
+
+  -- the rows of the block's window, filled by its texels
+  rows-marked : (g : ℕ → ℕ) (r : ℕ) (s : List ℕ) → r ≤ rowsOf m b
+      → rowsPut (λ (y x : ℕ). g (y * m .bw + x)) (windowOf m b .at) (m .width) (columnsOf m b) r s ≡ marked (isAbove m b r) (λ (k : ℕ). g (texelOf m k)) s
+  unfolding rowsPut
+  rows-marked g zero s l = rows-none m b (λ (k : ℕ). g (texelOf m k)) s
+  rows-marked g (suc r) s l =
+      let e : r + 1 ≡ suc r = omega arith in
+      rw e at
+      (row-turn r g s _ _ (omega arith) (rows-marked g r s (omega arith))
+      (ap (λ (o : ℕ). putAt (λ (i : ℕ). g (r * m .bw + i)) o (columnsOf m b) (rowsPut (λ (y x : ℕ). g (y * m .bw + x)) (windowOf m b .at) (m .width) (columnsOf m b) r s)) (window-row m z b h r)))
+
+  pub window-painted : (g : ℕ → ℕ) (w : Window) (n : ℕ) (s t : List ℕ) → w ≡ windowOf m b → w .columns ≡ n
+      → t ≡ rowsPut (λ (y x : ℕ). g (y * m .bw + x)) (w .at) (m .width) n (w .rows) s → t ≡ marked (isIn m b (b + 1)) (λ (k : ℕ). g (texelOf m k)) s
+  window-painted g w n s t e c d = rows-end (rowsOf m b) _ s t ((rw (← c, e) at d) ∙ rows-marked g (rowsOf m b) s (omega arith)) (omega arith)

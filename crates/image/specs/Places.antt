@@ -1,8 +1,8 @@
 -- Where a block's pixels stand in the image.
 -- Assumes nothing.
 use mathlib.Core.Path.{_≡_, sym, ap, _∙_}
-use Prim.Native.Nat.{ℕ, suc, _+_, _-_, _*_, _/_, _%_, _≤_, _<_, min}
-use native.Mathlib.Nat.{mul-comm, suc-mul, mul-le-mul, mul-le-mul-right, mod-lt, div-mul-le-self, div-le-self, div-add-mod', div-lt-iff-lt-mul}
+use Prim.Native.Nat.{ℕ, zero, suc, _+_, _-_, _*_, _/_, _%_, _≤_, _<_, min}
+use native.Mathlib.Nat.{mul-comm, add-mul, suc-mul, mul-le-mul, mul-le-mul-right, mod-lt, div-mul-le-self, div-le-self, div-add-mod', div-lt-iff-lt-mul}
 use native.Mathlib.Decide.{decLt}
 use native.Mathlib.Omega.{arith}
 use mathlib.Core.List.{List}
@@ -10,6 +10,7 @@ use Rattle.laws.specs.Lists.{putAt}
 use lib.Arith.{digits-lt, digits-div, digits-mod}
 use Rattle.image.specs.Image.{alongOf, totalOf, pixelsOf, blockOf}
 use Rattle.image.specs.declared.Shape.{Shape}
+use Rattle.image.specs.declared.Window.{Window}
 
 -- ---- blocks of a side along n pixels
 -- each starts inside
@@ -64,6 +65,18 @@ rowsOf m b = min (m .bh) (m .height - topOf m b)
 abbrev pub rowAt : Shape → ℕ → ℕ → ℕ
 rowAt m b r = (topOf m b + r) * m .width + leftOf m b
 
+abbrev pub windowOf : Shape → ℕ → Window
+windowOf m b = record { at = topOf m b * m .width + leftOf m b; columns = columnsOf m b; rows = rowsOf m b }
+
+-- the first n places of the first r rows, which start width apart from one place on, filled by row and column
+unfoldable pub rowsPut : (ℕ → ℕ → ℕ) → ℕ → ℕ → ℕ → ℕ → List ℕ → List ℕ
+rowsPut g at width n zero s = s
+rowsPut g at width n (suc r) s = putAt (g r) (at + r * width) n (rowsPut g at width n r s)
+
+-- all of them are among len places
+abbrev pub RowsFit : ℕ → ℕ → ℕ → ℕ → ℕ → Type 0
+RowsFit at width n rows len = (r : ℕ) → r < rows → at + r * width + n ≤ len
+
 -- there is a column of blocks
 pub some : (m : Shape) → Shaped m → 0 < alongOf (m .width) (m .bw)
 some m s = let l : 0 / m .bw < alongOf (m .width) (m .bw) = block-inside (m .width) (m .bw) 0 (s .bw) (s .width) in omega arith
@@ -85,6 +98,11 @@ module _ (m : Shape) (x y : ℕ) (h : Inside m x y) where
 
   pub top-is : y * m .bh ≡ topOf m (blockAt m x y)
   top-is = rw (digits-div y (h .column))
+
+-- its window, by the numbers of the code
+pub window-is : (m : Shape) (b left top : ℕ) {at columns rows : ℕ} → left ≡ leftOf m b → top ≡ topOf m b → at ≡ top * m .width + left → columns ≡ min (m .bw) (m .width - left)
+    → rows ≡ min (m .bh) (m .height - top) → record { at = at; columns = columns; rows = rows } ≡ windowOf m b
+window-is m b left top el et ea ec er = rw (ea, ec, er, el, et)
 
 -- where a loop over the blocks from first on stands at block b
 pub record At (m : Shape) (b x y : ℕ) : Type 0 where
@@ -140,19 +158,21 @@ module _ (m : Shape) (s : Shaped m) (b : ℕ) (h : b < totalOf m) where
       let e : suc (topOf m b + r) * m .width ≡ (topOf m b + r) * m .width + m .width = suc-mul (topOf m b + r) (m .width) in
       omega (arith, left-inside, mul-comm (m .width) (m .height))
 
-  -- the copied stretch, by the numbers of the code
-  module _ (r left top columns at : ℕ) (el : left ≡ leftOf m b) (et : top ≡ topOf m b) (ec : columns ≡ min (m .bw) (m .width - left)) (ea : at ≡ (top + r) * m .width + left) where
-    pub at-is : at ≡ rowAt m b r
-    at-is = ea ∙ rw (et, el)
+  -- so does the window's
+  pub window-row : (r : ℕ) → windowOf m b .at + r * m .width ≡ rowAt m b r
+  window-row r = omega (arith, add-mul (topOf m b) r (m .width))
 
-    pub columns-are : columns ≡ columnsOf m b
-    columns-are = ec ∙ rw el
+  -- its n columns
+  module _ (w : Window) (n : ℕ) (e : w ≡ windowOf m b) (c : w .columns ≡ n) where
+    pub window-fits : (len : ℕ) → pixelsOf m ≤ len → RowsFit (w .at) (m .width) n (w .rows) len
+    window-fits len p r l =
+        let k : r < rowsOf m b = rw e at l in
+        rw (← c, e, window-row r) (omega (arith, row-fits r k))
 
-    pub stretch-fits : (len : ℕ) → m .bw ≤ 12 → m .bh ≤ 12 → r < rowsOf m b → pixelsOf m ≤ len → (r * m .bw + columns ≤ 144) × (at + columns ≤ len)
-    stretch-fits len w k l p = rw (at-is, columns-are) (texels-fit m b r w k l, omega (arith, row-fits r l))
-
-    pub stretch-is : (f : ℕ → ℕ) (t u : List ℕ) → u ≡ putAt f at columns t → u ≡ putAt f (rowAt m b r) (columnsOf m b) t
-    stretch-is f t u e = rw (at-is, columns-are) at e
+    pub window-texels : m .bw ≤ 12 → m .bh ≤ 12 → RowsFit 0 (m .bw) n (w .rows) 144
+    window-texels k l r q =
+        let i : r < rowsOf m b = rw e at q in
+        rw (← c, e) (omega (arith, texels-fit m b r k l i))
 
   -- ---- a place in row r of the block
   pub record InRow (r k : ℕ) : Type 0 where

@@ -9,7 +9,7 @@ ghost use Rattle.block.specs.Block.{joinedAt, mapAnswer};
 ghost use Rattle.block.specs.Facts.{Tables};
 ghost use Rattle.image.specs.Image.{alongOf, totalOf, pixelsOf, texelOf, bytesOf, marked, isIn, paintedBlocks, badIn, isSide, refusalOf, imageOf, shape, refusedAt, movedBy, stepOf, stepped};
 ghost use Rattle.image.specs.Given.{Sides, Sized};
-ghost use Rattle.image.specs.Places.{Shaped, Inside, blockAt, rowsOf, columnsOf, rowAt};
+ghost use Rattle.image.specs.Places.{Shaped, Inside, blockAt, windowOf, rowsPut, RowsFit};
 
 // The size of an image and the footprint of its blocks.
 pub struct Shape {
@@ -127,15 +127,45 @@ fn place(m: Shape, y: usize, x: usize) -> usize
     y * m.width + x
 }
 
-// Copies row r of the block in column x and row y, as far as it lies in the image.
-fn copy_columns(h: &[u16; 288], m: Shape, x: usize, y: usize, r: usize, out: &mut [u32])
-    requires { ⌜ (Sides m) × ((Shaped m) × ((Inside m x y) × ((pixelsOf m ≤ length (now out)) × (r < rowsOf m (blockAt m x y))))) ⌝ }
-    ensures { λ _. ⌜ now (out .exit) ≡ putAt (λ (i : ℕ). joinedAt (now (h .entry)) (r * m .bw + i)) (rowAt m (blockAt m x y) r) (columnsOf m (blockAt m x y)) (now (out .entry)) ⌝ }
+// Where a block's pixels stand: the place of the first, and how many columns and rows of them lie in the image.
+pub struct Window {
+    pub at: usize,
+    pub columns: usize,
+    pub rows: usize,
+}
+
+// The window of the block in column x and row y.
+fn window_of(m: Shape, x: usize, y: usize) -> Window
+    requires { ⌜ (Sides m) × ((Shaped m) × (Inside m x y)) ⌝ }
+    ensures { λ r. ⌜ r ≡ windowOf m (blockAt m x y) ⌝ }
 {
     let left = left_of(m, x);
     let top = top_of(m, y);
-    let columns = smaller(m.bw, m.width - left);
-    copy_row(h, r * m.bw, out, place(m, top + r, left), columns);
+    Window {
+        at: place(m, top, left),
+        columns: smaller(m.bw, m.width - left),
+        rows: smaller(m.bh, m.height - top),
+    }
+}
+
+// Copies the words of n texels of each row, `bw` apart, to rows of the output that start `width` apart from one place on.
+fn copy_rows(
+    h: &[u16; 288],
+    bw: usize,
+    out: &mut [u32],
+    at: usize,
+    width: usize,
+    rows: usize,
+    n: usize,
+)
+    requires { ⌜ (RowsFit 0 bw n rows 144) × (RowsFit at width n rows (length (now out))) ⌝ }
+    ensures { λ _. ⌜ now (out .exit) ≡ rowsPut (λ (y x : ℕ). joinedAt (now (h .entry)) (y * bw + x)) at width n rows (now (out .entry)) ⌝ }
+{
+    let mut r = 0;
+    while r < rows {
+        copy_row(h, r * bw, out, at + r * width, n);
+        r += 1;
+    }
 }
 
 // Copies the words of the block in column x and row y to its pixels, as far as it lies in the image.
@@ -143,11 +173,49 @@ fn copy_block(h: &[u16; 288], m: Shape, x: usize, y: usize, out: &mut [u32])
     requires { ⌜ (Sides m) × ((Shaped m) × ((Inside m x y) × (pixelsOf m ≤ length (now out)))) ⌝ }
     ensures { λ _. ⌜ now (out .exit) ≡ marked (isIn m (blockAt m x y) (blockAt m x y + 1)) (λ (k : ℕ). joinedAt (now (h .entry)) (texelOf m k)) (now (out .entry)) ⌝ }
 {
-    let rows = smaller(m.bh, m.height - top_of(m, y));
+    let w = window_of(m, x, y);
+    copy_rows(h, m.bw, out, w.at, m.width, w.rows, w.columns);
+}
+
+fn fill_row(word: u32, out: &mut [u32], to: usize, n: usize)
+    requires { ⌜ to + n ≤ length (now out) ⌝ }
+    ensures { λ _. ⌜ now (out .exit) ≡ putAt (λ (i : ℕ). word) to n (now (out .entry)) ⌝ }
+{
+    let mut i = 0;
+    while i < n {
+        out[to + i] = word;
+        i += 1;
+    }
+}
+
+// Fills the first n pixels of rows that start `width` apart from one place on.
+fn fill_rows(word: u32, out: &mut [u32], at: usize, width: usize, rows: usize, n: usize)
+    requires { ⌜ RowsFit at width n rows (length (now out)) ⌝ }
+    ensures { λ _. ⌜ now (out .exit) ≡ rowsPut (λ (y x : ℕ). word) at width n rows (now (out .entry)) ⌝ }
+{
     let mut r = 0;
     while r < rows {
-        copy_columns(h, m, x, y, r, out);
+        fill_row(word, out, at + r * width, n);
         r += 1;
+    }
+}
+
+// Fills the pixels of the block in column x and row y, as far as it lies in the image, with one word. A row as wide as a footprint has a
+// loop of its own: of a number of places that the compiler knows.
+fn fill_block(word: u32, m: Shape, x: usize, y: usize, out: &mut [u32])
+    requires { ⌜ (Sides m) × ((Shaped m) × ((Inside m x y) × (pixelsOf m ≤ length (now out)))) ⌝ }
+    ensures { λ _. ⌜ now (out .exit) ≡ marked (isIn m (blockAt m x y) (blockAt m x y + 1)) (λ (k : ℕ). word) (now (out .entry)) ⌝ }
+{
+    let w = window_of(m, x, y);
+    let columns = w.columns;
+    match columns {
+        4 => fill_rows(word, out, w.at, m.width, w.rows, 4),
+        5 => fill_rows(word, out, w.at, m.width, w.rows, 5),
+        6 => fill_rows(word, out, w.at, m.width, w.rows, 6),
+        8 => fill_rows(word, out, w.at, m.width, w.rows, 8),
+        10 => fill_rows(word, out, w.at, m.width, w.rows, 10),
+        12 => fill_rows(word, out, w.at, m.width, w.rows, 12),
+        _ => fill_rows(word, out, w.at, m.width, w.rows, columns),
     }
 }
 
@@ -160,7 +228,7 @@ fn is_bad(a: usize) -> usize
     1
 }
 
-// Paints block b, which is in column x and row y, and says by 1 that it answered 10 to 16. The halves of its words are put into h.
+// Paints block b, which is in column x and row y, and gives its answer. The halves of a legal block's words are put into h.
 fn paint_block(
     rev: &[u8; 256],
     t: &[u16; 256],
@@ -174,13 +242,22 @@ fn paint_block(
     out: &mut [u32],
 ) -> usize
     requires { ⌜ Tables (now rev) (now t) (now q) × (Sized m (length (now «data»)) (length (now out)) × ((b < totalOf m) × ((Inside m x y) × ((b ≡ blockAt m x y) × (length (now h) ≡ 288))))) ⌝ }
-    ensures { λ r. ⌜ ((r ≡ cond (leb 10 (mapAnswer (bytesOf (now («data» .entry)) b) (m .bw) (m .bh))) 1 0) × (r ≤ 1)) × ((length (now (h .exit)) ≡ 288) × (now (out .exit) ≡ paintedBlocks (now («data» .entry)) m b (b + 1) (now (out .entry)))) ⌝ }
+    ensures { λ r. ⌜ (r ≡ mapAnswer (bytesOf (now («data» .entry)) b) (m .bw) (m .bh)) × ((length (now (h .exit)) ≡ 288) × (now (out .exit) ≡ paintedBlocks (now («data» .entry)) m b (b + 1) (now (out .entry)))) ⌝ }
 {
     let start = 16 * b;
     let end = start + 16;
-    let a = block::decode_halves(rev, t, q, bits::load(&data[start..end]), m.bw, m.bh, h);
-    copy_block(h, m, x, y, out);
-    is_bad(a)
+    let v = bits::load(&data[start..end]);
+    if params::is_void(v) {
+        fill_block(block::void_color(v), m, x, y, out);
+        return 1;
+    }
+    let a = block::decode_halves(rev, t, q, v, m.bw, m.bh, h);
+    if a == 0 {
+        copy_block(h, m, x, y, out);
+        return 0;
+    }
+    fill_block(block::MAGENTA, m, x, y, out);
+    a
 }
 
 // Paints the blocks from one on to before another, and counts those that answered 10 to 16.
@@ -198,7 +275,7 @@ fn paint_blocks(data: &[u8], m: Shape, first: usize, end: usize, out: &mut [u32]
     let mut bad = 0;
     let mut b = first;
     while b < end {
-        bad += paint_block(&rev, &t, &q, data, m, b, x, y, &mut h, out);
+        bad += is_bad(paint_block(&rev, &t, &q, data, m, b, x, y, &mut h, out));
         b += 1;
         x += 1;
         if x == across {

@@ -6,7 +6,7 @@ use mathlib.Core.Logic.{_⊎_, inl, inr, ⊎-elim}
 use Prim.Native.Nat.{ℕ, zero, suc, _+_, _-_, _*_, _/_, _≤_, _<_}
 use native.Mathlib.Omega.{arith}
 use borrow.Author.Tests.{lt-ltb, le-ltb, ltb-false, leb-true, leb-false, eq-eqb, ne-eqb, eqb-true}
-use lib.Dec.{leb, eqb}
+use lib.Dec.{leb, ltb, eqb}
 use Rattle.bits.specs.Bits.{bitsAt}
 use Rattle.bits.specs.BitLaws.{locality, same-bits}
 use Rattle.laws.specs.Table.{at}
@@ -180,11 +180,16 @@ conf-least p = go (eqb p 1)
     go true = omega arith
     go false = omega arith
 
-pub parts-are : (v : ℕ) → partsOf (lowOf v) ≡ bitsAt v 11 2 + 1
-unfolding partsOf lowOf
-parts-are v =
+-- the first bits of a block are those of its low configuration
+pub low-bits-are : (v s n : ℕ) → s + n ≤ 17 → bitsAt (lowOf v) s n ≡ bitsAt v s n
+unfolding lowOf
+low-bits-are v s n h =
     let p = bitsAt v 11 2 + 1 in
-    ap (λ (x : ℕ). x + 1) (sym (locality v 0 (confLen p) 11 2 (omega (arith, conf-least p))))
+    sym (locality v 0 (confLen p) s n (omega (arith, conf-least p))) ∙ ap (λ (k : ℕ). bitsAt v k n) (omega arith)
+
+pub parts-are : (v : ℕ) → partsOf (lowOf v) ≡ bitsAt v 11 2 + 1
+unfolding partsOf
+parts-are v = ap (λ (x : ℕ). x + 1) (low-bits-are v 11 2 (omega arith))
 
 low-same : (v w : ℕ) → Same v w 0 (confLen (partsOf (lowOf v))) → lowOf v ≡ lowOf w
 unfolding lowOf
@@ -205,6 +210,32 @@ answer-is v bw bh = go (answer (lowOf v) bw bh) (eqb (answer (lowOf v) bw bh) 0)
 pub legal-is : (v bw bh : ℕ) → answer (lowOf v) bw bh ≡ 0 → paramsOf v bw bh ≡ legal (lowOf v) (extraOf (mapOf (configOf (lowOf v))) v)
 unfolding paramsOf
 legal-is v bw bh e = rw e
+
+-- ---- a void block
+pub void-low : (v : ℕ) → isVoid (lowOf v) ≡ isVoid v
+unfolding isVoid
+void-low v = rw (low-bits-are v 0 9 (omega arith))
+
+-- no other block answers 1
+neither : (b : Bool) (x y : ℕ) → (x ≡ 1 → ⊥) → (y ≡ 1 → ⊥) → cond b x y ≡ 1 → ⊥
+neither true x y h l = h
+neither false x y h l = l
+
+not-1 : (k : Config) (bw bh : ℕ) → verdict k bw bh ≡ 1 → ⊥
+unfolding verdict endVerdict
+not-1 k bw bh =
+    neither (ltb bw (k .width)) 11 _ (λ e. omega arith)
+    (neither (ltb bh (k .height)) 11 _ (λ e. omega arith)
+    (neither (ltb 64 (weights k)) 12 _ (λ e. omega arith)
+    (neither (ltb (k .weightlen) 24) 13 _ (λ e. omega arith)
+    (neither (ltb 96 (k .weightlen)) 13 _ (λ e. omega arith)
+    (neither (eqb (k .planes) 2 && eqb (k .parts) 4) 14 _ (λ e. omega arith)
+    (neither (ltb 18 (k .values)) 15 _ (λ e. omega arith)
+    (neither (ltb 128 ((13 * k .values + 4) / 5 + used k)) 16 0 (λ e. omega arith) (λ e. omega arith))))))))
+
+pub void-alone : (v bw bh : ℕ) → isVoid v ≡ false → paramsOf v bw bh .answer ≡ 1 → ⊥
+unfolding answer
+void-alone v bw bh h e = neither (isReserved (lowOf v)) 10 _ (λ z. omega arith) (not-1 (configOf (lowOf v)) bw bh) (rw (void-low v, h) at (sym (answer-is v bw bh) ∙ e))
 
 -- ---- the same by the checks, for a decoder that makes them one after the other
 pub answer-1 : (c bw bh : ℕ) → isVoid c ≡ true → answer c bw bh ≡ 1
@@ -228,32 +259,33 @@ unfolding paramsOf
 legal-low c v bw bh e h = rw (← e, h)
 
 -- the same with each test's flag and each part's result by name: a decoder's ways out, by `search`
-pub out-void : (v bw bh c : ℕ) (r : Params) (w : Bool) → c ≡ lowOf v → w ≡ isVoid c → w ≡ true → r ≡ refused 1 → r ≡ paramsOf v bw bh
-out-void v bw bh c r w q i j g = g ∙ refused-low c v bw bh 1 q (answer-1 c bw bh (sym i ∙ j)) (λ h. omega arith)
+pub out-void : (v bw bh : ℕ) (r : Params) (w : Bool) → w ≡ isVoid v → w ≡ true → r ≡ refused 1 → r ≡ paramsOf v bw bh
+out-void v bw bh r w i j g = g ∙ refused-low (lowOf v) v bw bh 1 refl (answer-1 (lowOf v) bw bh (void-low v ∙ sym i ∙ j)) (λ h. omega arith)
 
-pub out-reserved : (v bw bh c : ℕ) (r : Params) (w s : Bool) → c ≡ lowOf v → w ≡ isVoid c → w ≡ false → s ≡ isReserved c → s ≡ true → r ≡ refused 10 → r ≡ paramsOf v bw bh
-out-reserved v bw bh c r w s q i j m n g = g ∙ refused-low c v bw bh 10 q (answer-10 c bw bh (sym i ∙ j) (sym m ∙ n)) (λ h. omega arith)
+pub out-reserved : (v bw bh c : ℕ) (r : Params) (w s : Bool) → c ≡ lowOf v → w ≡ isVoid v → w ≡ false → s ≡ isReserved c → s ≡ true → r ≡ refused 10 → r ≡ paramsOf v bw bh
+out-reserved v bw bh c r w s q i j m n g = g ∙ refused-low c v bw bh 10 q (answer-10 c bw bh (ap isVoid q ∙ void-low v ∙ sym i ∙ j) (sym m ∙ n)) (λ h. omega arith)
 
-ruled : (bw bh c a : ℕ) (k : Config) (w s : Bool) → w ≡ isVoid c → w ≡ false → s ≡ isReserved c → s ≡ false → k ≡ configOf c → a ≡ verdict k bw bh → answer c bw bh ≡ a
-ruled bw bh c a k w s i j m n o p = answer-rest c bw bh (sym i ∙ j) (sym m ∙ n) ∙ ap (λ (x : Config). verdict x bw bh) (sym o) ∙ sym p
+ruled : (v bw bh c a : ℕ) (k : Config) (w s : Bool) → c ≡ lowOf v → w ≡ isVoid v → w ≡ false → s ≡ isReserved c → s ≡ false → k ≡ configOf c → a ≡ verdict k bw bh → answer c bw bh ≡ a
+ruled v bw bh c a k w s q i j m n o p =
+    answer-rest c bw bh (ap isVoid q ∙ void-low v ∙ sym i ∙ j) (sym m ∙ n) ∙ ap (λ (x : Config). verdict x bw bh) (sym o) ∙ sym p
 
-pub out-rule : (v bw bh c a : ℕ) (k : Config) (r : Params) (w s : Bool) → c ≡ lowOf v → w ≡ isVoid c → w ≡ false → s ≡ isReserved c → s ≡ false → k ≡ configOf c → a ≡ verdict k bw bh → (a ≡ 0 → ⊥) → r ≡ refused a → r ≡ paramsOf v bw bh
-out-rule v bw bh c a k r w s q i j m n o p z g = g ∙ refused-low c v bw bh a q (ruled bw bh c a k w s i j m n o p) z
+pub out-rule : (v bw bh c a : ℕ) (k : Config) (r : Params) (w s : Bool) → c ≡ lowOf v → w ≡ isVoid v → w ≡ false → s ≡ isReserved c → s ≡ false → k ≡ configOf c → a ≡ verdict k bw bh → (a ≡ 0 → ⊥) → r ≡ refused a → r ≡ paramsOf v bw bh
+out-rule v bw bh c a k r w s q i j m n o p z g = g ∙ refused-low c v bw bh a q (ruled v bw bh c a k w s q i j m n o p) z
 
-pub out-legal : (v bw bh c a : ℕ) (k : Config) (r : Params) (w s : Bool) → c ≡ lowOf v → w ≡ isVoid c → w ≡ false → s ≡ isReserved c → s ≡ false → k ≡ configOf c → a ≡ verdict k bw bh → a ≡ 0 → r ≡ legal c (extraOf (mapOf (configOf c)) v) → r ≡ paramsOf v bw bh
-out-legal v bw bh c a k r w s q i j m n o p z g = g ∙ legal-low c v bw bh q (ruled bw bh c a k w s i j m n o p ∙ z)
+pub out-legal : (v bw bh c a : ℕ) (k : Config) (r : Params) (w s : Bool) → c ≡ lowOf v → w ≡ isVoid v → w ≡ false → s ≡ isReserved c → s ≡ false → k ≡ configOf c → a ≡ verdict k bw bh → a ≡ 0 → r ≡ legal c (extraOf (mapOf (configOf c)) v) → r ≡ paramsOf v bw bh
+out-legal v bw bh c a k r w s q i j m n o p z g = g ∙ legal-low c v bw bh q (ruled v bw bh c a k w s q i j m n o p ∙ z)
 
 -- the same of the answer and the map alone
-pub map-void : (v bw bh c : ℕ) (r : Judged) (w : Bool) → c ≡ lowOf v → w ≡ isVoid c → w ≡ true → r ≡ judgedOf (refused 1) → r ≡ judgedOf (paramsOf v bw bh)
-map-void v bw bh c r w q i j g = g ∙ ap judgedOf (out-void v bw bh c (refused 1) w q i j refl)
+pub map-void : (v bw bh : ℕ) (r : Judged) (w : Bool) → w ≡ isVoid v → w ≡ true → r ≡ judgedOf (refused 1) → r ≡ judgedOf (paramsOf v bw bh)
+map-void v bw bh r w i j g = g ∙ ap judgedOf (out-void v bw bh (refused 1) w i j refl)
 
-pub map-reserved : (v bw bh c : ℕ) (r : Judged) (w s : Bool) → c ≡ lowOf v → w ≡ isVoid c → w ≡ false → s ≡ isReserved c → s ≡ true → r ≡ judgedOf (refused 10) → r ≡ judgedOf (paramsOf v bw bh)
+pub map-reserved : (v bw bh c : ℕ) (r : Judged) (w s : Bool) → c ≡ lowOf v → w ≡ isVoid v → w ≡ false → s ≡ isReserved c → s ≡ true → r ≡ judgedOf (refused 10) → r ≡ judgedOf (paramsOf v bw bh)
 map-reserved v bw bh c r w s q i j m n g = g ∙ ap judgedOf (out-reserved v bw bh c (refused 10) w s q i j m n refl)
 
-pub map-rule : (v bw bh c a : ℕ) (k : Config) (r : Judged) (w s : Bool) → c ≡ lowOf v → w ≡ isVoid c → w ≡ false → s ≡ isReserved c → s ≡ false → k ≡ configOf c → a ≡ verdict k bw bh → (a ≡ 0 → ⊥) → r ≡ judgedOf (refused a) → r ≡ judgedOf (paramsOf v bw bh)
+pub map-rule : (v bw bh c a : ℕ) (k : Config) (r : Judged) (w s : Bool) → c ≡ lowOf v → w ≡ isVoid v → w ≡ false → s ≡ isReserved c → s ≡ false → k ≡ configOf c → a ≡ verdict k bw bh → (a ≡ 0 → ⊥) → r ≡ judgedOf (refused a) → r ≡ judgedOf (paramsOf v bw bh)
 map-rule v bw bh c a k r w s q i j m n o p z g = g ∙ ap judgedOf (out-rule v bw bh c a k (refused a) w s q i j m n o p z refl)
 
-pub map-legal : (v bw bh c a : ℕ) (k : Config) (r : Judged) (w s : Bool) → c ≡ lowOf v → w ≡ isVoid c → w ≡ false → s ≡ isReserved c → s ≡ false → k ≡ configOf c → a ≡ verdict k bw bh → a ≡ 0 → r ≡ record { answer = 0; map = mapOf k } → r ≡ judgedOf (paramsOf v bw bh)
+pub map-legal : (v bw bh c a : ℕ) (k : Config) (r : Judged) (w s : Bool) → c ≡ lowOf v → w ≡ isVoid v → w ≡ false → s ≡ isReserved c → s ≡ false → k ≡ configOf c → a ≡ verdict k bw bh → a ≡ 0 → r ≡ record { answer = 0; map = mapOf k } → r ≡ judgedOf (paramsOf v bw bh)
 unfolding legal
 map-legal v bw bh c a k r w s q i j m n o p z g =
     g ∙ ap (λ (x : Config). record { answer = 0; map = mapOf x }) o ∙ ap judgedOf (out-legal v bw bh c a k _ w s q i j m n o p z refl)

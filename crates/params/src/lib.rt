@@ -83,10 +83,11 @@ fn range_bits(q: usize, n: usize) -> usize
     sequence::total(sequence::range_of(q), n)
 }
 
-fn is_void(c: usize) -> bool
-    ensures { λ r. ⌜ r ≡ isVoid c ⌝ }
+// Whether a block is void: of one colour, which stands in it.
+pub fn is_void(b: Block) -> bool
+    ensures { λ r. ⌜ r ≡ isVoid (valueOf b) ⌝ }
 {
-    c % 512 == 0x1fc
+    bits::getbits(b, 0, 9) == 0x1fc
 }
 
 fn is_reserved(c: usize) -> bool
@@ -596,10 +597,10 @@ fn refuse(answer: usize) -> Params
 pub fn decode_block_params(b: Block, bw: usize, bh: usize) -> Params
     ensures { λ r. ⌜ r ≡ paramsOf (valueOf b) bw bh ⌝ }
 {
-    let c = low_config(b);
-    if is_void(c) {
+    if is_void(b) {
         return refuse(1);
     }
+    let c = low_config(b);
     if is_reserved(c) {
         return refuse(10);
     }
@@ -633,10 +634,10 @@ fn refuse_map(answer: usize) -> Judged
 pub fn decode_block_map(b: Block, bw: usize, bh: usize) -> Judged
     ensures { λ r. ⌜ r ≡ judgedOf (paramsOf (valueOf b) bw bh) ⌝ }
 {
-    let c = low_config(b);
-    if is_void(c) {
+    if is_void(b) {
         return refuse_map(1);
     }
+    let c = low_config(b);
     if is_reserved(c) {
         return refuse_map(10);
     }

@@ -50,6 +50,9 @@ paint-block-requires c κs =
     let h : l .b < totalOf (s .args .m) = omega (arith, s .pre .1 .1) in
     (l .inv .0, (same-sized _ _ _ _ (s .pre .0) (ap length (p .painted) ∙ length-painted _ _ _ _ _), (h, (at-inside _ _ _ _ (p .place) h, (p .place .block, p .halves)))))
 
+is-bad-requires : tie.Need-is-bad-requires Inv-loop μ-loop
+is-bad-requires c κs = search needs
+
 add-bad : tie.Need-add-bad Inv-loop μ-loop
 add-bad c = omega arith
 
@@ -67,21 +70,21 @@ loop-less c = omega arith
 
 loop-again : tie.Need-loop-again Inv-loop μ-loop
 loop-again c =
-    let l = c .before .before .before .before .before .before .before .before .before .before .loop in
-    let s = c .before .before .before .before .before .before .before .before .before .before .before .before .before .before .before .before .before in
-    let e = c .before .before .before .paint-block .ensures in
+    let l = c .before .before .before .before .before .before .before .before .before .before .before .loop in
+    let s = c .before .before .before .before .before .before .before .before .before .before .before .before .before .before .before .before .before .before in
+    let e = c .before .before .before .before .paint-block .ensures in
     let p = l .inv .1 in
-    (l .inv .0, painting-next _ _ _ _ _ _ _ _ _ _ _ _ p _ _ (at-below _ _ _ _ _ (p .rows) (p .place) (c .if1 .taken) (sized-shaped _ _ _ (s .pre .0))) (omega arith) _ _ _ (e .0) (e .1))
+    (l .inv .0, painting-next _ _ _ _ _ _ _ _ _ _ _ _ p _ _ (at-below _ _ _ _ _ (p .rows) (p .place) (c .if1 .taken) (sized-shaped _ _ _ (s .pre .0))) (omega arith) _ _ _ _ (c .before .is-bad .ensures) e)
 
 loop-less-2 : tie.Need-loop-less-2 Inv-loop μ-loop
 loop-less-2 c = omega arith
 
 loop-again-2 : tie.Need-loop-again-2 Inv-loop μ-loop
 loop-again-2 c =
-    let l = c .before .before .before .before .before .before .before .before .before .before .loop in
-    let e = c .before .before .before .paint-block .ensures in
+    let l = c .before .before .before .before .before .before .before .before .before .before .before .loop in
+    let e = c .before .before .before .before .paint-block .ensures in
     let p = l .inv .1 in
-    (l .inv .0, painting-next _ _ _ _ _ _ _ _ _ _ _ _ p _ _ (at-next _ _ _ _ _ (p .rows) (p .place) (c .if1 .left)) (omega arith) _ _ _ (e .0) (e .1))
+    (l .inv .0, painting-next _ _ _ _ _ _ _ _ _ _ _ _ p _ _ (at-next _ _ _ _ _ (p .rows) (p .place) (c .if1 .left)) (omega arith) _ _ _ _ (c .before .is-bad .ensures) e)
 
 same-length : tie.Need-same-length Inv-loop μ-loop
 same-length c = ap length (c .before .loop .inv .1 .painted) ∙ length-painted _ _ _ _ _
@@ -103,6 +106,7 @@ paint-blocks-spec =
     div-y
     loop-holds
     paint-block-requires
+    is-bad-requires
     add-bad
     add-b
     add-x

@@ -4,9 +4,6 @@ use borrow.Author.Needs.{needs}
 use Rattle.params.proofs.decode_block_map.Statement.{statement}
 use Rattle.params.proofs.decode_block_map.Tie as tie
 
-low-config-requires : tie.Need-low-config-requires
-low-config-requires c κs = search needs
-
 is-void-requires : tie.Need-is-void-requires
 is-void-requires c κs = search needs
 
@@ -15,6 +12,9 @@ refuse-map-requires c κs = search needs
 
 returns : tie.Need-returns
 returns c = search map-void
+
+low-config-requires : tie.Need-low-config-requires
+low-config-requires c κs = search needs
 
 is-reserved-requires : tie.Need-is-reserved-requires
 is-reserved-requires c κs = search needs
@@ -47,10 +47,10 @@ pub decode-block-map-spec : {M : Type 1} → statement M
 decode-block-map-spec =
     tie.close
     (tie.spec
-    low-config-requires
     is-void-requires
     refuse-map-requires
     returns
+    low-config-requires
     is-reserved-requires
     refuse-map-requires-2
     returns-2

@@ -1,13 +1,18 @@
 -- `params::is_void` meets its contract by its test. Assumes nothing.
-use native.Mathlib.Nat.{div-one}
-use Rattle.bits.specs.Bits.{bitsAt}
+use mathlib.Core.Path.{ap}
+use Prim.Native.Nat.{ℕ}
+use lib.Dec.{eqb}
+use borrow.Author.Needs.{needs}
 use Rattle.params.specs.Config.{isVoid}
 use Rattle.params.proofs.is_void.Statement.{statement}
 use Rattle.params.proofs.is_void.Tie as tie
 
+getbits-requires : tie.Need-getbits-requires
+getbits-requires c κs = search needs
+
 returns : tie.Need-returns
-unfolding isVoid bitsAt
-returns c = simp div-one
+unfolding isVoid
+returns c = ap (λ (x : ℕ). eqb x 0x1fc) (c .getbits .ensures .0)
 
 pub is-void-spec : {M : Type 1} → statement M
-is-void-spec = tie.close (tie.spec returns)
+is-void-spec = tie.close (tie.spec getbits-requires returns)
