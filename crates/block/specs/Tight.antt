@@ -195,7 +195,7 @@ any p a b c d = one ℕ (anyOf p a b c d 0)
 pub hdr-channel : (v0 v1 w : ℕ) → Tight ℕ (λ r. r ≡ hdrChannel v0 v1 w)
 hdr-channel v0 v1 w = one ℕ (hdrChannel v0 v1 w)
 
--- ---- ldr, hdr and paint: one promise
+-- ---- ldr_texels, hdr_texels and paint: one promise
 pub applicate-color : (n planes channel : ℕ) (ends : List Endpoints) (w map s : List ℕ)
     → Tight (List ℕ) (λ out. out ≡ put (halfAt (texelWord ends w map planes channel)) 0 (2 * eights n) s)
 applicate-color n planes channel ends w map s = one (List ℕ) (put (halfAt (texelWord ends w map planes channel)) 0 (2 * eights n) s)

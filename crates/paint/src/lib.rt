@@ -63,10 +63,10 @@ pub fn applicate_color<'a>(
 {
     let kind = common_kind(parts, ends);
     if kind == 0 {
-        return ldr::paint_ldr(out, n, parts, planes, channel, ends, w, map);
+        return ldr_texels::paint_ldr(out, n, parts, planes, channel, ends, w, map);
     }
     if kind == 1 {
-        return hdr::paint_hdr(out, n, parts, planes, channel, ends, w, map);
+        return hdr_texels::paint_hdr(out, n, parts, planes, channel, ends, w, map);
     }
     mixed::paint_any(out, n, w, starts_of(planes, channel), map, ends);
 }
