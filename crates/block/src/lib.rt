@@ -1,7 +1,7 @@
 // A block: from sixteen bytes to the words of its texels.
 ghost use mathlib.Core.Path.{_≡_};
 ghost use mathlib.Core.Bool.{true};
-ghost use Prim.Native.Nat.{ℕ, _+_, _*_, _/_, _%_, _≤_, _<_};
+ghost use Prim.Native.Nat.{ℕ, _+_, _*_, _≤_, _<_};
 ghost use lib.ListN.{length, replicate};
 ghost use Rattle.laws.specs.Lists.{put};
 ghost use Rattle.bits.specs.Bits.{bitsAt, reversals};
@@ -10,7 +10,6 @@ ghost use Rattle.sequence.specs.Digits.{tritTable, quintTable};
 ghost use Rattle.half.specs.Half.{voidByteOf};
 ghost use Rattle.params.specs.Blocks.{listed, noMap, paramsOf};
 ghost use Rattle.partition.specs.Ramps.{Sides};
-ghost use Rattle.blend.specs.Blend.{wordOf};
 ghost use Rattle.texels.specs.Texels.{halfAt, eights};
 ghost use Rattle.block.specs.Block.{endsOf, endsField, weightsIn, weightsField, partitionsIn, ordinaryWord, voidWord, blockWord, halvesOf, joinedAt, answerOf, paintedOf, reportOf, blockMap};
 ghost use Rattle.block.specs.Facts.{Facts, Footprint, Tables};

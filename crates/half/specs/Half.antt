@@ -1,8 +1,8 @@
 -- IEEE 754's binary16 over the values of `lib.Ieee`: a bit of sign, five of exponent, ten of digits. And the two rules that make a byte of a half. Definitions only.
 use Prim.Native.Nat.{ℕ, _+_, _-_, _*_, _/_, _%_, _^_, min}
-use mathlib.Core.Bool.{Bool, true, false, cond}
+use mathlib.Core.Bool.{Bool, cond}
 use lib.Dec.{leb, eqb}
-use lib.Ieee.{Float, nan, inf, fin, odd, up, down}
+use lib.Ieee.{Float, nan, inf, odd}
 
 -- the fields of a pattern h
 abbrev pub sign : ℕ → Bool

@@ -1,13 +1,13 @@
 // The parameters of a block: its answer, its grid, its endpoint modes, its map.
 use bits::Block;
 ghost use mathlib.Core.Path.{_≡_};
-ghost use mathlib.Core.Bool.{Bool, true, false};
+ghost use mathlib.Core.Bool.{true, false};
 ghost use Prim.Native.Nat.{_+_, _-_, _*_, _≤_, _<_};
 ghost use Rattle.bits.specs.Blocks.{valueOf};
 ghost use Rattle.sequence.specs.Ranges.{topOf};
 ghost use Rattle.params.specs.Ranges.{cost, widest};
 ghost use Rattle.params.specs.Widest.{Roomy, inverseOf, wholeBits};
-ghost use Rattle.params.specs.Config.{isVoid, isReserved, gridLow, gridHigh, gridOf, weightR, weightH, weightD, lacksDH, partsOf, numberOf, modeBase, classOf, restOf, modeOf, valuesTo, confLen, modeBits, configOf};
+ghost use Rattle.params.specs.Config.{isVoid, isReserved, gridLow, gridHigh, gridOf, weightR, weightH, weightD, lacksDH, partsOf, numberOf, modeBase, classOf, restOf, valuesTo, confLen, modeBits, configOf};
 ghost use Rattle.params.specs.Blocks.{listed, oneOf2, endVerdict, verdict, answer, used, extraLen, lowOf, endRange, mapOf, modeAt, channelOf, upperOf, legal, noMap, refused, paramsOf, judgedOf, extraOf};
 ghost use Rattle.params.specs.Bounds.{Small};
 

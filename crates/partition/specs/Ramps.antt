@@ -1,7 +1,7 @@
 -- A ramp as the code holds it, and the partition of a texel by two ramps or by four.
 -- Assumes nothing.
 use mathlib.Core.Path.{_≡_}
-use Prim.Native.Nat.{ℕ, _+_, _-_, _*_, _%_, _≤_, _<_}
+use Prim.Native.Nat.{ℕ, _+_, _*_, _%_, _≤_, _<_}
 use Rattle.partition.specs.Partition.{ramp, largest}
 use Rattle.partition.specs.declared.Ramp.{Ramp}
 

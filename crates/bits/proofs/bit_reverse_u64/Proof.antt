@@ -1,6 +1,5 @@
 -- The reversed word, byte by byte.
 use mathlib.Core.Path.{sym}
-use Prim.Native.Nat.{_-_}
 use Rattle.bits.specs.BitLaws.{reversed-bytes}
 use borrow.Author.Needs.{needs}
 use Rattle.bits.proofs.bit_reverse_u64.Statement.{statement}

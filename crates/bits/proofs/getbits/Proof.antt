@@ -1,6 +1,5 @@
 -- The low bits of 64 bits are the shorter field.
 use mathlib.Core.Path.{_≡_, _∙_}
-use Prim.Native.Nat.{_-_}
 use native.Mathlib.Omega.{arith}
 use Rattle.bits.specs.Blocks.{valueOf}
 use Rattle.bits.specs.BitLaws.{low-bits, bits-lt}

@@ -1,5 +1,4 @@
 -- Two words of eight bytes are the sum of sixteen.
-use Prim.Native.Nat.{_-_}
 use Rattle.bits.specs.BitLaws.{bytes-words}
 use borrow.Author.Needs.{needs}
 use Rattle.bits.proofs.load.Statement.{statement}

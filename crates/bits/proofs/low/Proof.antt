@@ -1,6 +1,5 @@
 -- The shifted 1 is a power of two below 2 ^ 64; 64 bits are the whole word.
 use mathlib.Core.Path.{sym}
-use Prim.Native.Nat.{_-_, _^_}
 use native.Mathlib.Nat.{mod-eq-of-lt, lt-of-lt-of-le}
 use lib.Pow.{pow-pos, pow-mono}
 use Rattle.bits.specs.BitLaws.{one-shl}

@@ -1,6 +1,5 @@
 -- One test over all 256 entries.
 use mathlib.Core.Path.{refl}
-use Prim.Native.Nat.{_-_}
 use Rattle.laws.specs.Lists.{tested}
 use Rattle.bits.specs.Bits.{reversed, reversals}
 use Rattle.bits.proofs.reversal.Statement.{statement}

@@ -1,6 +1,5 @@
 -- The words change places, each reversed.
 use mathlib.Core.Path.{sym}
-use Prim.Native.Nat.{_-_}
 use native.Mathlib.Omega.{arith}
 use Rattle.bits.specs.BitLaws.{reversed-words}
 use borrow.Author.Needs.{needs}

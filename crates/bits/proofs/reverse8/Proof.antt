@@ -1,6 +1,6 @@
 -- The table's entry at a byte is the reversed byte.
 use mathlib.Core.Path.{_∙_}
-use Prim.Native.Nat.{_-_, _/_, _^_}
+use Prim.Native.Nat.{_/_, _^_}
 use Rattle.bits.specs.BitLaws.{reversals-at}
 use borrow.Author.Needs.{needs}
 use Rattle.bits.proofs.reverse8.Statement.{statement}

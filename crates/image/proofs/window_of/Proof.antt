@@ -1,7 +1,6 @@
 -- By the numbers of columns and rows before it.
 use Rattle.image.specs.Places.{left-is, top-is, window-is}
 use mathlib.Core.Path.{_∙_}
-use native.Mathlib.Omega.{arith}
 use borrow.Author.Needs.{needs}
 use Rattle.image.proofs.window_of.Statement.{statement}
 use Rattle.image.proofs.window_of.Tie as tie

@@ -1,7 +1,7 @@
 -- `params::accept` meets its contract: each part of the record is the one that its function ensures. Assumes nothing.
 use Rattle.params.specs.Bounds.{upper-lt}
 use Rattle.params.specs.Blocks.{legal, mapOf}
-use Prim.Native.Nat.{_-_, _≤_, _<_}
+use Prim.Native.Nat.{_≤_, _<_}
 use native.Mathlib.Omega.{arith}
 use borrow.Author.Needs.{needs}
 use Rattle.params.proofs.accept.Statement.{statement}

@@ -1,6 +1,6 @@
 -- `partition::ramp_of` meets its contract: the slopes are the factors of the hash, doubled where the standard doubles the coordinates. Assumes nothing.
 use Rattle.partition.specs.Partition.{factor}
-use Prim.Native.Nat.{_+_, _*_, _-_}
+use Prim.Native.Nat.{_+_, _*_}
 use Rattle.partition.specs.PartitionLaws.{x-bounds, y-bounds, ramp-is}
 use native.Mathlib.Nat.{mul-le-mul}
 use mathlib.Core.Path.{ap, _∙_}

@@ -1,6 +1,6 @@
 -- Five places are filled with 0, one after the other.
 use mathlib.Core.Path.{refl}
-use Prim.Native.Nat.{ℕ, _-_}
+use Prim.Native.Nat.{ℕ}
 use Rattle.laws.specs.Lists.{put-first, put-step}
 use borrow.Author.Needs.{needs}
 use Rattle.sequence.proofs.clear.Statement.{statement}

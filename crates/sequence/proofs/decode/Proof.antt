@@ -1,6 +1,5 @@
 -- The promise of the kind's own function.
 use mathlib.Core.Path.{sym, ap, _∙_}
-use Prim.Native.Nat.{_-_}
 use Rattle.bits.specs.Blocks.{valueOf}
 use Rattle.sequence.specs.Ranges.{range}
 use Rattle.sequence.specs.Sequence.{valuesOf}

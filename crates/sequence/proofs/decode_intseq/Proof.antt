@@ -1,6 +1,5 @@
 -- The sequence is cut out of the block, and decoded.
 use mathlib.Core.Path.{_≡_}
-use Prim.Native.Nat.{_-_}
 use Rattle.bits.specs.Bits.{bitsAt}
 use Rattle.bits.specs.Blocks.{valueOf}
 use Rattle.sequence.specs.Sequence.{totalOf}

@@ -1,6 +1,5 @@
 -- Downwards is the reversed block upwards.
 use mathlib.Core.Path.{_≡_}
-use Prim.Native.Nat.{_-_}
 use Rattle.bits.specs.Bits.{reversed}
 use Rattle.bits.specs.Blocks.{valueOf}
 use borrow.Author.Needs.{needs}

@@ -1,6 +1,5 @@
 -- Each store is a field of d, which the shifts reach.
 use mathlib.Core.Path.{_∙_}
-use Prim.Native.Nat.{_-_}
 use native.Mathlib.Omega.{arith}
 use Rattle.laws.specs.Lists.{put-first, put-step}
 use Rattle.sequence.specs.Sequence.{plainFrom}

@@ -1,6 +1,5 @@
 -- Each store is the group's value at its place: a digit of e above the bits that the shifts reach.
 use mathlib.Core.Path.{_∙_}
-use Prim.Native.Nat.{_-_}
 use native.Mathlib.Omega.{arith}
 use Rattle.laws.specs.Lists.{put-first, put-step}
 use Rattle.sequence.specs.Ranges.{range}

@@ -1,6 +1,6 @@
 -- The gathered bits are the group's place in the table, whose entry has its digits.
 use mathlib.Core.Path.{ap, _∙_}
-use Prim.Native.Nat.{ℕ, _-_}
+use Prim.Native.Nat.{ℕ}
 use lib.ListN.{getD}
 use Rattle.sequence.specs.Digits.{quintTable}
 use Rattle.sequence.specs.DigitLaws.{quint-entry}

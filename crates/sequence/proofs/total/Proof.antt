@@ -1,6 +1,6 @@
 -- By kind, the definition; no product exceeds 288 times 8.
 use mathlib.Core.Path.{sym}
-use Prim.Native.Nat.{_*_, _-_}
+use Prim.Native.Nat.{_*_}
 use native.Mathlib.Omega.{arith}
 use native.Mathlib.Nat.{mul-zero, add-zero}
 use Rattle.sequence.specs.Sequence.{totalOf}

@@ -1,6 +1,6 @@
 -- One test over all 256 entries: each has the digits that the standard's rule unpacks.
 use mathlib.Core.Path.{refl}
-use Prim.Native.Nat.{ℕ, _-_}
+use Prim.Native.Nat.{ℕ}
 use Rattle.laws.specs.Lists.{tested}
 use Rattle.bits.specs.Bits.{bitsAt}
 use Rattle.sequence.specs.Digits.{pair, lowTrits, trits, packed, tritTable}

@@ -1,6 +1,6 @@
 -- A digit and b bits beside it stay below 256, so that no shift loses a bit.
 use mathlib.Core.Path.{_≡_}
-use Prim.Native.Nat.{ℕ, _+_, _*_, _-_, _%_, _^_, _≤_, _<_}
+use Prim.Native.Nat.{ℕ, _+_, _*_, _%_, _^_, _≤_, _<_}
 use native.Mathlib.Omega.{arith}
 use native.Mathlib.Nat.{mod-lt, add-mul, one-mul}
 use lib.Pow.{pow-pos, shl-exact}
