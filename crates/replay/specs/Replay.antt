@@ -1,13 +1,13 @@
 -- A stored record against the decoder. Its head is a footprint's width and height, the answer, and a block's sixteen bytes; four bytes for each
 -- texel are stored after it.
 -- Assumes nothing.
-use mathlib.Core.Bool.{Bool, true, false, cond}
-use mathlib.Core.List.{List, [], _∷_, _++_}
-use Prim.Native.Nat.{ℕ, zero, suc, _+_, _*_, min}
+use mathlib.Core.Bool.{Bool, true, false, cond, not}
+use mathlib.Core.List.{List}
+use Prim.Native.Nat.{ℕ, zero, suc, _+_, _*_}
 use lib.Dec.{eqb, ltb}
 use lib.ListN.{getD, set, take, drop, replicate}
 use Rattle.block.specs.Block.{answerOf, paintedOf}
-use Rattle.text.specs.Text.{decimal}
+use Rattle.text.specs.Counts.{more}
 use Rattle.replay.specs.declared.Tally.{Tally}
 
 -- what the words hold before the block is decoded
@@ -26,7 +26,7 @@ expectedAt stored n k = cond (ltb k n) (wordAt stored k) marker
 -- how many of the first m words hold something else
 unfoldable pub differences : List ℕ → List ℕ → ℕ → ℕ → ℕ
 differences words stored n zero = 0
-differences words stored n (suc m) = differences words stored n m + cond (eqb (getD words m 0) (expectedAt stored n m)) 0 1
+differences words stored n (suc m) = differences words stored n m + cond (not (eqb (getD words m 0) (expectedAt stored n m))) 1 0
 
 -- the texels of a record's footprint
 abbrev pub texelsOf : List ℕ → ℕ
@@ -39,10 +39,6 @@ differsFrom head stored =
     let bw = getD head 0 0 in
     let bh = getD head 1 0 in
     cond (eqb (answerOf block bw bh 144) (getD head 2 0)) (ltb 0 (differences (paintedOf block bw bh (replicate 144 marker)) stored (texelsOf head) 144)) true
-
--- a count of 64 bits with n more, or the largest
-abbrev pub more : ℕ → ℕ → ℕ
-more count n = min (count + n) 18446744073709551615
 
 -- the tally at the list's end, or at a malformed record
 unfoldable pub closedAt : Tally → Bool → Tally
@@ -70,7 +66,3 @@ recordIn t head stored = countedIn t (texelsOf head) (differsFrom head stored)
 
 abbrev pub answerIn : List ℕ → List ℕ → List ℕ
 answerIn answers head = let a = getD head 2 0 in set answers a (more (getD answers a 0) 1)
-
--- a label, a count and a newline
-abbrev pub countLine : List ℕ → ℕ → List ℕ
-countLine label n = label ++ decimal n ++ (10 ∷ [])

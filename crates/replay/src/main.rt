@@ -4,12 +4,9 @@
 use libc::STDIN_FILENO;
 use libc::STDOUT_FILENO;
 ghost use mathlib.Core.Path.{_≡_};
-ghost use mathlib.Core.Bool.{cond};
-ghost use Prim.Native.Nat.{_+_, _≤_, _<_};
-ghost use lib.Dec.{eqb};
+ghost use Prim.Native.Nat.{_≤_, _<_};
 ghost use lib.ListN.{length};
-ghost use Rattle.text.specs.Text.{Placed};
-ghost use Rattle.replay.specs.Replay.{wordAt, expectedAt, differences, texelsOf, differsFrom, more, closedAt, countedIn, recordIn, answerIn, countLine};
+ghost use Rattle.replay.specs.Replay.{wordAt, expectedAt, differences, texelsOf, differsFrom, closedAt, countedIn, recordIn, answerIn};
 
 // What a word holds before it is painted, and keeps where it stands after the block's words.
 const MARKER: u32 = 0x0102_0304;
@@ -48,15 +45,6 @@ fn expected(stored: &[u8; 576], n: usize, k: usize) -> u32
     MARKER
 }
 
-fn unequal(a: u32, b: u32) -> usize
-    ensures { λ r. ⌜ (r ≡ cond (eqb a b) 0 1) × (r ≤ 1) ⌝ }
-{
-    if a == b {
-        return 0;
-    }
-    1
-}
-
 // How many of the words hold something else than they should after a block of n texels.
 fn count_differences(words: &[u32; 144], stored: &[u8; 576], n: usize) -> usize
     ensures { λ r. ⌜ r ≡ differences (now (words .entry)) (now (stored .entry)) n 144 ⌝ }
@@ -64,7 +52,7 @@ fn count_differences(words: &[u32; 144], stored: &[u8; 576], n: usize) -> usize
     let mut found = 0;
     let mut k = 0;
     while k < 144 {
-        found += unequal(words[k], expected(stored, n, k));
+        found += text::one_if(words[k] != expected(stored, n, k));
         k += 1;
     }
     found
@@ -127,27 +115,10 @@ fn read_record(head: &mut [u8; 19], stored: &mut [u8]) -> Record
 // What the records so far came to, and whether another may follow.
 pub struct Tally {
     pub running: bool,
-    pub blocks: u64,
-    pub words: u64,
-    pub different: u64,
-    pub malformed: u64,
-}
-
-// A count with n more. It would stay at the largest number, which no run reaches.
-fn added(count: u64, n: usize) -> u64
-    ensures { λ r. ⌜ r ≡ more count n ⌝ }
-{
-    let by = n as u64;
-    if u64::MAX - by < count {
-        return u64::MAX;
-    }
-    count + by
-}
-
-fn one_if(holds: bool) -> usize
-    ensures { λ r. ⌜ r ≡ cond holds 1 0 ⌝ }
-{
-    if holds { 1 } else { 0 }
+    pub blocks: usize,
+    pub words: usize,
+    pub different: usize,
+    pub malformed: usize,
 }
 
 // The tally at the list's end, or at a malformed record.
@@ -159,7 +130,7 @@ fn closed(t: Tally, malformed: bool) -> Tally
         blocks: t.blocks,
         words: t.words,
         different: t.different,
-        malformed: added(t.malformed, one_if(malformed)),
+        malformed: text::added(t.malformed, text::one_if(malformed)),
     }
 }
 
@@ -169,24 +140,24 @@ fn counted(t: Tally, words: usize, different: bool) -> Tally
 {
     Tally {
         running: true,
-        blocks: added(t.blocks, 1),
-        words: added(t.words, words),
-        different: added(t.different, one_if(different)),
+        blocks: text::added(t.blocks, 1),
+        words: text::added(t.words, words),
+        different: text::added(t.different, text::one_if(different)),
         malformed: t.malformed,
     }
 }
 
 // Counts a whole record, and its stored answer among the answers.
-fn count_record(t: Tally, answers: &mut [u64; 256], head: &[u8; 19], stored: &[u8; 576]) -> Tally
+fn count_record(t: Tally, answers: &mut [usize; 256], head: &[u8; 19], stored: &[u8; 576]) -> Tally
     ensures { λ r. ⌜ (r ≡ recordIn t (now (head .entry)) (now (stored .entry))) × (now (answers .exit) ≡ answerIn (now (answers .entry)) (now (head .entry))) ⌝ }
 {
     let answer = wide(head[2]);
-    answers[answer] = added(answers[answer], 1);
+    answers[answer] = text::added(answers[answer], 1);
     counted(t, texels(head), differs(head, stored))
 }
 
 // Reads a record and counts it.
-fn replay(t: Tally, answers: &mut [u64; 256]) -> Tally {
+fn replay(t: Tally, answers: &mut [usize; 256]) -> Tally {
     let mut head = [0u8; 19];
     let mut stored = [0u8; 576];
     let read = read_record(&mut head, &mut stored);
@@ -198,7 +169,7 @@ fn replay(t: Tally, answers: &mut [u64; 256]) -> Tally {
 }
 
 // A proved loop has to end, and nothing says that the records do: it counts down from a number that no run uses up.
-fn replay_all(answers: &mut [u64; 256]) -> Tally {
+fn replay_all(answers: &mut [usize; 256]) -> Tally {
     let mut t = Tally {
         running: true,
         blocks: 0,
@@ -214,25 +185,15 @@ fn replay_all(answers: &mut [u64; 256]) -> Tally {
     t
 }
 
-// Lays out a line of a label and a count, and gives its length.
-fn lay_out(line: &mut [u8], label: &[u8], count: u64) -> usize
-    requires { ⌜ length (now label) + 21 ≤ length (now line) ⌝ }
-    ensures { λ r. ⌜ Placed (now (line .entry)) 0 (countLine (now (label .entry)) count) (now (line .exit)) r × (r ≤ length (now (line .entry))) ⌝ }
-{
-    let start = text::put_text(line, 0, label);
-    let after = text::put_number(line, start, count);
-    text::put_text(line, after, b"\n")
-}
-
-fn print(label: &[u8], count: u64)
+fn print(label: &[u8], count: usize)
     requires { ⌜ length (now label) ≤ 43 ⌝ }
 {
     let mut line = [0u8; 64];
-    let end = lay_out(&mut line, label, count);
+    let end = text::lay_out_count(&mut line, label, count);
     io::write_all(STDOUT_FILENO, &line[..end]);
 }
 
-fn print_answers(answers: &[u64; 256]) {
+fn print_answers(answers: &[usize; 256]) {
     print(b"answer 0: ", answers[0]);
     print(b"answer 1: ", answers[1]);
     print(b"answer 10: ", answers[10]);
@@ -245,7 +206,7 @@ fn print_answers(answers: &[u64; 256]) {
 }
 
 fn main() {
-    let mut answers = [0u64; 256];
+    let mut answers = [0usize; 256];
     let t = replay_all(&mut answers);
     print(b"blocks ", t.blocks);
     print_answers(&answers);

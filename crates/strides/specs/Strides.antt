@@ -1,11 +1,10 @@
 -- An image painted in steps against the image painted whole.
 -- Assumes nothing.
 use mathlib.Core.Bool.{Bool, true, cond, not}
-use mathlib.Core.List.{List, [], _∷_, _++_}
-use Prim.Native.Nat.{ℕ, zero, suc, _+_, _≤_, min}
+use mathlib.Core.List.{List}
+use Prim.Native.Nat.{ℕ, zero, suc, _+_, _≤_}
 use lib.Dec.{eqb, ltb}
 use lib.ListN.{getD}
-use Rattle.text.specs.Text.{decimal}
 use Rattle.image.specs.declared.Cursor.{Cursor}
 use Rattle.strides.specs.declared.Walk.{Walk}
 
@@ -27,18 +26,10 @@ expectedAt whole n k = cond (ltb k n) (getD whole k 0) marker
 -- how many of the first m words hold something else
 unfoldable pub differences : List ℕ → List ℕ → ℕ → ℕ → ℕ
 differences words whole n zero = 0
-differences words whole n (suc m) = differences words whole n m + cond (eqb (getD words m 0) (expectedAt whole n m)) 0 1
-
--- a count of 64 bits with n more, or the largest
-abbrev pub more : ℕ → ℕ → ℕ
-more count n = min (count + n) 18446744073709551615
+differences words whole n (suc m) = differences words whole n m + cond (not (eqb (getD words m 0) (expectedAt whole n m))) 1 0
 
 -- a walk that did not end, was refused, painted another number of blocks or of bad ones, or left other words
 unfoldable pub differsFrom : Walk → ℕ → ℕ → ℕ → Bool
 differsFrom w blocks bad found =
     cond (w .moving) true
     (cond (eqb (w .refused) 0) (cond (eqb (w .painted) blocks) (cond (eqb (w .bad) bad) (not (eqb found 0)) true) true) true)
-
--- a label, a count and a newline
-abbrev pub countLine : List ℕ → ℕ → List ℕ
-countLine label n = label ++ decimal n ++ (10 ∷ [])

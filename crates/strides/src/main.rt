@@ -1,12 +1,9 @@
 // Paints images in steps of many sizes, and counts the runs that come out otherwise than the image painted whole.
 use libc::STDOUT_FILENO;
 ghost use mathlib.Core.Path.{_≡_};
-ghost use mathlib.Core.Bool.{cond};
 ghost use Prim.Native.Nat.{_+_, _/_, _≤_, _<_};
-ghost use lib.Dec.{eqb};
 ghost use lib.ListN.{length};
-ghost use Rattle.text.specs.Text.{Placed};
-ghost use Rattle.strides.specs.Strides.{Small, expectedAt, differences, more, differsFrom, countLine};
+ghost use Rattle.strides.specs.Strides.{Small, expectedAt, differences, differsFrom};
 
 // What a word holds before it is painted, and keeps where it stands after the image's words.
 const MARKER: u32 = 0x0102_0304;
@@ -155,22 +152,6 @@ fn fill(data: &mut [u8], seed: usize) {
     }
 }
 
-// A count with n more. It would stay at the largest number, which no run reaches.
-fn added(count: usize, n: usize) -> usize
-    ensures { λ r. ⌜ r ≡ more count n ⌝ }
-{
-    if usize::MAX - n < count {
-        return usize::MAX;
-    }
-    count + n
-}
-
-fn one_if(holds: bool) -> usize
-    ensures { λ r. ⌜ r ≡ cond holds 1 0 ⌝ }
-{
-    if holds { 1 } else { 0 }
-}
-
 // What the steps over an image came to so far, and whether the last one moved the cursor.
 pub struct Walk {
     pub moving: bool,
@@ -189,10 +170,10 @@ fn walked(w: Walk, data: &[u8], blocks: usize, out: &mut [u32]) -> Walk {
     Walk {
         moving: cursor.next != before.next,
         cursor,
-        steps: added(w.steps, 1),
-        painted: added(w.painted, step.painted),
-        bad: added(w.bad, step.bad),
-        refused: added(w.refused, one_if(step.answer != 0)),
+        steps: text::added(w.steps, 1),
+        painted: text::added(w.painted, step.painted),
+        bad: text::added(w.bad, step.bad),
+        refused: text::added(w.refused, text::one_if(step.answer != 0)),
     }
 }
 
@@ -231,15 +212,6 @@ fn expected(whole: &[u32; 1280], n: usize, k: usize) -> u32
     MARKER
 }
 
-fn unequal(a: u32, b: u32) -> usize
-    ensures { λ r. ⌜ (r ≡ cond (eqb a b) 0 1) × (r ≤ 1) ⌝ }
-{
-    if a == b {
-        return 0;
-    }
-    1
-}
-
 // How many of the words hold something else than they should after an image of n pixels.
 fn count_differences(words: &[u32; 1280], whole: &[u32; 1280], n: usize) -> usize
     ensures { λ r. ⌜ r ≡ differences (now (words .entry)) (now (whole .entry)) n 1280 ⌝ }
@@ -247,7 +219,7 @@ fn count_differences(words: &[u32; 1280], whole: &[u32; 1280], n: usize) -> usiz
     let mut found = 0;
     let mut k = 0;
     while k < 1280 {
-        found += unequal(words[k], expected(whole, n, k));
+        found += text::one_if(words[k] != expected(whole, n, k));
         k += 1;
     }
     found
@@ -287,25 +259,25 @@ pub struct Tally {
 fn with_run(t: Tally, w: Walk, different: bool) -> Tally {
     Tally {
         images: t.images,
-        runs: added(t.runs, 1),
-        steps: added(t.steps, w.steps),
-        painted: added(t.painted, w.painted),
-        bad: added(t.bad, w.bad),
-        words: added(t.words, 1280),
-        different: added(t.different, one_if(different)),
+        runs: text::added(t.runs, 1),
+        steps: text::added(t.steps, w.steps),
+        painted: text::added(t.painted, w.painted),
+        bad: text::added(t.bad, w.bad),
+        words: text::added(t.words, 1280),
+        different: text::added(t.different, text::one_if(different)),
     }
 }
 
 // The tally with an image painted whole. One that was refused, or changed words after its own, counts as a run that differs.
 fn with_image(t: Tally, answer: usize, stray: usize) -> Tally {
     Tally {
-        images: added(t.images, 1),
+        images: text::added(t.images, 1),
         runs: t.runs,
         steps: t.steps,
         painted: t.painted,
         bad: t.bad,
         words: t.words,
-        different: added(t.different, one_if(added(answer, stray) != 0)),
+        different: text::added(t.different, text::one_if(text::added(answer, stray) != 0)),
     }
 }
 
@@ -338,7 +310,7 @@ fn count_bad(data: &[u8], bw: usize, bh: usize) -> usize {
     while b < data.len() / 16 {
         let start = 16 * b;
         let end = start + 16;
-        found = added(found, one_if(is_bad(&data[start..end], bw, bh)));
+        found = text::added(found, text::one_if(is_bad(&data[start..end], bw, bh)));
         b += 1;
     }
     found
@@ -421,21 +393,11 @@ fn all_images() -> Tally {
     t
 }
 
-// Lays out a line of a label and a count, and gives its length.
-fn lay_out(line: &mut [u8], label: &[u8], count: u64) -> usize
-    requires { ⌜ length (now label) + 21 ≤ length (now line) ⌝ }
-    ensures { λ r. ⌜ Placed (now (line .entry)) 0 (countLine (now (label .entry)) count) (now (line .exit)) r × (r ≤ length (now (line .entry))) ⌝ }
-{
-    let start = text::put_text(line, 0, label);
-    let after = text::put_number(line, start, count);
-    text::put_text(line, after, b"\n")
-}
-
 fn print(label: &[u8], count: usize)
     requires { ⌜ length (now label) ≤ 43 ⌝ }
 {
     let mut line = [0u8; 64];
-    let end = lay_out(&mut line, label, count as u64);
+    let end = text::lay_out_count(&mut line, label, count);
     io::write_all(STDOUT_FILENO, &line[..end]);
 }
 

@@ -1,4 +1,4 @@
--- A number in decimal, and a text placed in a line. A text is a list of bytes, in ASCII.
+-- A number in decimal, the line of a count, and a text placed in a line. A text is a list of bytes, in ASCII.
 -- Assumes nothing.
 use mathlib.Core.Path.{_≡_}
 use mathlib.Core.Bool.{cond}
@@ -15,6 +15,10 @@ digitsOf (suc d) n = cond (ltb n 10) ((48 + n) ∷ []) (digitsOf d (n / 10) ++ (
 -- a number of 64 bits has at most 20
 unfoldable pub decimal : ℕ → List ℕ
 decimal n = digitsOf 20 n
+
+-- a label, a count and a newline
+abbrev pub countLine : List ℕ → ℕ → List ℕ
+countLine label n = label ++ decimal n ++ (10 ∷ [])
 
 -- the line s with the text t from place at on
 abbrev pub placed : List ℕ → ℕ → List ℕ → List ℕ

@@ -12,7 +12,7 @@ added-requires c κs = search needs
 
 returns : tie.Need-returns
 unfolding closedAt
-returns c = rw (c .added .ensures, c .before .one-if .ensures)
+returns c = rw (c .added .ensures, c .before .one-if .ensures .0)
 
 pub closed-spec : {M : Type 1} → statement M
 closed-spec = tie.close (tie.spec one-if-requires added-requires returns)

@@ -19,7 +19,7 @@ added-requires-3 c κs = search needs
 returns : tie.Need-returns
 unfolding countedIn
 returns c =
-    rw (c .added3 .ensures, c .before .one-if .ensures, c .before .before .added2 .ensures, c .before .before .before .added .ensures)
+    rw (c .added3 .ensures, c .before .one-if .ensures .0, c .before .before .added2 .ensures, c .before .before .before .added .ensures)
 
 pub counted-spec : {M : Type 1} → statement M
 counted-spec =

@@ -17,20 +17,20 @@ loop-holds : tie.Need-loop-holds Inv-loop μ-loop
 unfolding differences
 loop-holds c = (omega arith, (refl, omega arith))
 
-mul-unequal : tie.Need-mul-unequal Inv-loop μ-loop
-mul-unequal c = omega arith
+mul-one-if : tie.Need-mul-one-if Inv-loop μ-loop
+mul-one-if c = omega arith
 
-element-copy-out-unequal : tie.Need-element-copy-out-unequal Inv-loop μ-loop
-element-copy-out-unequal c = omega arith
+element-copy-out-one-if : tie.Need-element-copy-out-one-if Inv-loop μ-loop
+element-copy-out-one-if c = omega arith
 
 expected-requires : tie.Need-expected-requires Inv-loop μ-loop
 expected-requires c κs = omega arith
 
-unequal-requires : tie.Need-unequal-requires Inv-loop μ-loop
-unequal-requires c κs = tt
+one-if-requires : tie.Need-one-if-requires Inv-loop μ-loop
+one-if-requires c κs = tt
 
 add-found : tie.Need-add-found Inv-loop μ-loop
-add-found c = omega (arith, c .unequal .ensures .1)
+add-found c = omega (arith, c .one-if .ensures .1)
 
 add-k : tie.Need-add-k Inv-loop μ-loop
 add-k c = omega arith
@@ -42,7 +42,7 @@ loop-again : tie.Need-loop-again Inv-loop μ-loop
 unfolding differences
 loop-again c =
     let l = c .before .before .before .before .loop in
-    (omega arith, (rw (add-one (l .k), l .inv .1 .0, c .unequal .ensures .0, c .before .expected .ensures), omega (arith, c .unequal .ensures .1)))
+    (omega arith, (rw (add-one (l .k), l .inv .1 .0, c .one-if .ensures .0, c .before .expected .ensures), omega (arith, c .one-if .ensures .1)))
 
 returns : tie.Need-returns Inv-loop μ-loop
 returns c =
@@ -57,10 +57,10 @@ count-differences-spec =
     Inv-loop
     μ-loop
     loop-holds
-    mul-unequal
-    element-copy-out-unequal
+    mul-one-if
+    element-copy-out-one-if
     expected-requires
-    unequal-requires
+    one-if-requires
     add-found
     add-k
     loop-less

@@ -1,9 +1,9 @@
 -- A label, a count and a newline, one after the other.
 use Rattle.text.specs.TextLaws.{placed-next}
 use native.Mathlib.Omega.{arith}
 use borrow.Author.Needs.{needs}
-use Rattle.strides.proofs.lay_out.Statement.{statement}
-use Rattle.strides.proofs.lay_out.Tie as tie
+use Rattle.text.proofs.lay_out_count.Statement.{statement}
+use Rattle.text.proofs.lay_out_count.Tie as tie
 
 put-text-requires : tie.Need-put-text-requires
 put-text-requires c κs = search needs
@@ -26,8 +26,8 @@ returns c =
     let count = c .before .before .before .before .before .before .before .put-number .ensures .0 in
     (placed-next (placed-next label count (omega arith)) (c .before .before .put-text2 .ensures) (omega arith), omega arith)
 
-pub lay-out-spec : {M : Type 1} → statement M
-lay-out-spec =
+pub lay-out-count-spec : {M : Type 1} → statement M
+lay-out-count-spec =
     tie.close
     (tie.spec
     put-text-requires
