@@ -2,6 +2,7 @@
 -- Assumes nothing.
 use mathlib.Core.Path.{_≡_, ap, _∙_}
 use mathlib.Core.Bool.{Bool, cond}
+use mathlib.Core.List.{List}
 use Prim.Native.Nat.{ℕ, _+_, _*_, _^_, _≤_, _<_}
 use native.Mathlib.Nat.{le-trans, mul-le-mul, mul-pos, zero-add}
 use native.Mathlib.Omega.{arith}
@@ -12,9 +13,10 @@ use lib.Dec.{ltb, eqb, eqb→eq, leb, leb→le, lit<, lit≤}
 use lib.ListN.{length, getD, List·getD-eq-default}
 use borrow.Author.Tests.{lt-ltb, le-ltb}
 use Rattle.laws.specs.Table.{all-at}
+use Rattle.laws.specs.Numbers.{NoneBelow, last-arm}
 use Rattle.laws.specs.Lists.{length-listOf, getD-listOf}
 use Rattle.bits.specs.BitLaws.{bits-lt}
-use Rattle.sequence.specs.Ranges.{ranges, rangeOf, base, levels, most, tops, topOf}
+use Rattle.sequence.specs.Ranges.{range, ranges, rangeOf, base, levels, most, tops, topOf}
 use Rattle.sequence.specs.Sequence.{valueIn, valueAt, valuesOf}
 use Rattle.sequence.specs.DigitLaws.{digit-lt}
 use Rattle.sequence.specs.declared.Kind.{Kind}
@@ -93,3 +95,13 @@ module _ (r : Range) (w n : ℕ) where
       entry (yes l) (yes h) = rw (values-before i h l) (value-lt r w i)
       entry (yes l) (no h) = rw (List·getD-eq-default (valuesOf r w n) 0 {n = i} (rw length-values (omega arith))) some
       entry (no l) h = rw (values-past i (omega arith)) some
+
+-- ---- a match on the number of bits, each arm of which hands it on as a constant
+
+-- an arm of its own, and the last
+module _ (k : Kind) (b m w n : ℕ) (out : List ℕ) where
+  pub values-arm : out ≡ valuesOf (range k m) w n → b ≡ m → out ≡ valuesOf (range k b) w n
+  values-arm h e = rw e h
+
+  pub values-last : out ≡ valuesOf (range k m) w n → b ≤ m → NoneBelow m b → out ≡ valuesOf (range k b) w n
+  values-last h l r = values-arm h (last-arm m b l r)

@@ -1,6 +1,6 @@
 -- Each arm runs the form of its range, which a test holds to the standard at every value.
 use mathlib.Core.Path.{_≡_}
-use Prim.Native.Nat.{ℕ, suc, _*_, _≤_, zero-le}
+use Prim.Native.Nat.{ℕ, _*_}
 use native.Mathlib.Omega.{arith}
 use borrow.Author.Needs.{needs}
 use lib.ListN.{getD}
@@ -9,14 +9,12 @@ use mathlib.Core.Bool.{Bool}
 use mathlib.Core.List.{List}
 use lib.Dec.{T, ltb, leb, ltb→lt, leb→le}
 use Rattle.laws.specs.Table.{all}
+use Rattle.laws.specs.Numbers.{last-arm}
 use Rattle.sequence.specs.Ranges.{ranges, rangeOf, levels}
 use Rattle.weights.specs.Weights.{weightOf}
 use Rattle.weights.specs.WeightLaws.{by-form, in-range}
 use Rattle.weights.proofs.unquantize.Statement.{statement}
 use Rattle.weights.proofs.unquantize.Tie as tie
-
-past : {k q : ℕ} → k ≤ q → (q ≡ k → ⊥) → suc k ≤ q
-past l n = omega arith
 
 -- an arm's form, where q is the arm's number
 arm : (s : tie.Start) (k : ℕ) (t : List ℕ) → s .args .q ≡ k → t ≡ each (formOf k) (s .args .seq .now) (s .args .n) (s .args .out .now)
@@ -111,10 +109,7 @@ returns-11 : tie.Need-returns-11
 returns-11 c = arm (c .before .before .before) 10 _ (c .before .before .match .keys11) (c .mixed-all5 .ensures)
 
 returns-12 : tie.Need-returns-12
-returns-12 c = let r = c .before .before .match .rest in
-    let h : 11 ≤ c .before .before .before .args .q =
-    past (past (past (past (past (past (past (past (past (past (past zero-le (r .0 .0 .0 .0 .0 .0 .0 .0 .0 .0 .1)) (r .0 .0 .0 .0 .0 .0 .0 .0 .0 .1)) (r .0 .0 .0 .0 .0 .0 .0 .0 .1)) (r .0 .0 .0 .0 .0 .0 .0 .1)) (r .0 .0 .0 .0 .0 .0 .1)) (r .0 .0 .0 .0 .0 .1)) (r .0 .0 .0 .0 .1)) (r .0 .0 .0 .1)) (r .0 .0 .1)) (r .0 .1)) (r .1) in
-    arm (c .before .before .before) 11 _ (omega arith) (c .plain-all5 .ensures)
+returns-12 c = arm (c .before .before .before) 11 _ (last-arm 11 _ (omega arith) (c .before .before .match .rest)) (c .plain-all5 .ensures)
 
 pub unquantize-spec : {M : Type 1} → statement M
 unquantize-spec =
