@@ -28,7 +28,7 @@ module _ (g : Grid) (next : List ℕ) (p : ℕ) (fits : Fits g) (l : p < g .plan
   upper k = omega (arith, pairs .pair k)
 
   -- a texel between pairs is the standard's
-  pub plane-at : (part : List ℕ) (s t : ℕ) → s < g .bw → t < g .bh → getD part s 0 ≡ placeOf (g .bw) (g .width) s % 16
+  plane-at : (part : List ℕ) (s t : ℕ) → s < g .bw → t < g .bh → getD part s 0 ≡ placeOf (g .bw) (g .width) s % 16
       → rowsOf g (listOf (spreadAt g next p) 0 208) part s t ≡ infillAt g (lowOf next) p s t
   unfolding rowAt between infillAt
   plane-at part s t h m e =
@@ -66,6 +66,12 @@ texels-same g f h fits same = listOf-same _ _ 288 (λ i a. at i (decLt i (g .bw 
         let r : i < g .bh * g .bw = omega arith in
         rw (lt-ltb i (g .bw * g .bh) b) (same (i % g .bw) (i / g .bw) (mod-lt i w) (div-lt-iff-lt-mul w .1 r))
     at i (no b) = rw (le-ltb i (g .bw * g .bh) (omega arith))
+
+-- a plane between spread pairs, with the parts of its columns, is the standard's
+pub plane-is : (g : Grid) (next pairs part out : List ℕ) (p : ℕ) → Fits g → p < g .planes → Pairs g next → out ≡ texels g (rowsOf g pairs part) → pairs ≡ listOf (spreadAt g next p) 0 208
+    → part ≡ put (λ (s : ℕ). placeOf (g .bw) (g .width) s % 16) 0 (eights (g .bw)) (replicate 16 0) → out ≡ planeOf g (lowOf next) p
+plane-is g next pairs part out p fits l even o e c =
+    o ∙ rw e (texels-same g _ (infillAt g (lowOf next) p) fits (λ s t h m. plane-at g next p fits l even part s t h m (column-at g fits _ part s c h)))
 
 -- the texels of a footprint fit one plane
 pub texels-le : {g : Grid} → Fits g → g .bw * g .bh ≤ 144

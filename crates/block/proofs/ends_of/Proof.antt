@@ -1,8 +1,12 @@
 -- The sequence that is read, unquantised and decoded is the one of the endpoint field.
-use Rattle.block.specs.Parts.{range-legal, below, past, ends-is}
 use mathlib.Core.Path.{refl}
+use Prim.Native.Nat.{ℕ}
 use native.Mathlib.Omega.{arith}
 use borrow.Author.Needs.{needs}
+use Rattle.bits.specs.Bits.{bitsAt}
+use Rattle.bits.specs.Blocks.{valueOf}
+use Rattle.sequence.specs.Sequence.{totalOf}
+use Rattle.block.specs.Parts.{range-legal, below, past, ends-is}
 use Rattle.block.proofs.ends_of.Statement.{statement}
 use Rattle.block.proofs.ends_of.Tie as tie
 
@@ -18,9 +22,11 @@ unquantize-requires : tie.Need-unquantize-requires
 unquantize-requires c κs =
     let s = c .before .before .before .before .before .before .before in
     let f = s .pre .1 .1 in
+    let k = s .args .p .config in
     let e = c .before .before .before .range-of .ensures in
     let d = c .before .before .decode-intseq .ensures in
-    (refl, ((f .values, f .least, f .most), (below _ _ _ _ _ e d, past _ _ _ _ d)))
+    let w : ℕ = bitsAt (valueOf (s .args .b)) (k .lowlen) (totalOf (c .before .before .before .range-of .result) (k .values)) in
+    (refl, ((f .values, f .least, f .most), (below _ w _ _ _ e d, past w _ _ _ d)))
 
 decode-endpoints-requires : tie.Need-decode-endpoints-requires
 decode-endpoints-requires c κs =

@@ -4,12 +4,10 @@ use Prim.Native.Nat.{ℕ}
 use native.Mathlib.Omega.{arith}
 use borrow.Author.Needs.{needs}
 use lib.ListN.{getD}
-use Rattle.weights.specs.Fast.{rowsOf, texels, lowOf}
 use mathlib.Core.List.{List}
 use native.Mathlib.Nat.{mod-lt}
-use Rattle.weights.specs.Infill.{infillAt}
 use Rattle.weights.specs.SpreadLaws.{spread-past}
-use Rattle.weights.specs.PlaneLaws.{column-at, column-lt, plane-at, texels-same}
+use Rattle.weights.specs.PlaneLaws.{column-at, column-lt, plane-is}
 use Rattle.weights.proofs.fill_plane.Statement.{statement}
 use Rattle.weights.proofs.fill_plane.Tie as tie
 
@@ -33,14 +31,7 @@ fill-rows-requires c κs =
     )
 
 returns : tie.Need-returns
-returns c =
-    let a = c .before .before .before .before .before .before .before .before .before .before .args in
-    let fits = c .before .before .before .before .before .before .before .before .before .before .pre .0 in
-    let part = c .before .before .before .before .before .before .before .columns .last .1 .0 in
-    c .fill-rows .ensures ∙ ap (λ (l : List ℕ). texels (a .g) (rowsOf (a .g) l part)) (c .before .before .before .before .spread .ensures)
-    ∙ texels-same (a .g) _ (infillAt (a .g) (lowOf (a .next .now)) (a .plane)) fits
-    (λ s t h m. plane-at (a .g) (a .next .now) (a .plane) fits (c .before .before .before .before .before .before .before .before .before .before .pre .1) (c .before .before .before .before .before .before .before .before .before .before .pre .3) part s t h m
-    (column-at (a .g) fits _ part s (c .before .before .before .before .before .before .before .columns .ensures .1) h))
+returns c = search plane-is
 
 pub fill-plane-spec : {M : Type 1} → statement M
 fill-plane-spec = tie.close (tie.spec columns-requires spread-requires fill-rows-requires returns)
