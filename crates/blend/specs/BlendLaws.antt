@@ -1,7 +1,7 @@
 -- The laws of blending: its closed forms, and its bounds.
 -- Assumes nothing.
 use mathlib.Core.Path.{_≡_, sym, ap, _∙_}
-use mathlib.Core.Bool.{Bool, true, false, cond}
+use mathlib.Core.Bool.{cond}
 use Prim.Native.Nat.{ℕ, _+_, _-_, _*_, _/_, _%_, _^_, _≤_, _<_, min, max}
 use native.Mathlib.Nat.{mul-comm, mul-assoc, mul-add, mul-le-mul-right}
 use native.Mathlib.Decide.{decLt}
@@ -9,6 +9,7 @@ use native.Mathlib.Omega.{arith}
 use lib.Bits.{bitOr, or-shifted, or-lt}
 use lib.Dec.{eqb, ltb}
 use borrow.Author.Tests.{lt-ltb, le-ltb}
+use Rattle.laws.specs.Numbers.{choice-le}
 use Rattle.half.specs.Half.{sign, field, digits, whole, hdrByte, hdrByteOf}
 use Rattle.blend.specs.Blend.{between, expand, crateByte, ldrChannel, hdrBlend, bent, halfOf, hdrChannel}
 
@@ -134,12 +135,8 @@ half-lt c h = omega (arith, bent-sum (c % 2048))
 -- an HDR channel is a byte
 pub hdr-byte : (h : ℕ) → hdrByteOf h ≤ 255
 unfolding hdrByte
-hdr-byte h = go (eqb (field h) 31) (sign h)
-  where
-    go : (s t : Bool) → cond s 255 (cond t 0 (min (whole (field h) (digits h)) 255)) ≤ 255
-    go true t = omega arith
-    go false true = omega arith
-    go false false = omega arith
+hdr-byte h =
+    choice-le (eqb (field h) 31) 255 _ (omega arith) (choice-le (sign h) 0 (min (whole (field h) (digits h)) 255) (omega arith) (omega arith))
 
 -- ---- as the code has it
 pub expanded-is : (e : ℕ) → e ≤ 286 → bitOr (e * 256 % 2 ^ 32) e ≡ expand e

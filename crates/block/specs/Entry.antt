@@ -8,6 +8,7 @@ use native.Mathlib.Omega.{arith}
 use lib.Dec.{eqb, ltb}
 use lib.ListN.{length, replicate, length-replicate}
 use borrow.Author.Tests.{eq-eqb, ne-eqb, eqb-false, lt-ltb, le-ltb}
+use Rattle.laws.specs.Numbers.{choice}
 use Rattle.laws.specs.Lists.{put, put-in, put-same}
 use Rattle.bits.specs.Bits.{bytes}
 use Rattle.params.specs.Blocks.{listed, used, weights, endVerdict, verdict, answer, lowOf, noMap, refused, paramsOf, judgedOf}
@@ -21,10 +22,6 @@ use Rattle.block.specs.Block.{blockWord, answerOf, paintedOf, mapAnswer,
 use Rattle.block.specs.Parts.{halves-put}
 
 -- ---- a block's answer is below every refusal
-choice : (b : Bool) (x y : ℕ) → x < 20 → y < 20 → cond b x y < 20
-choice true x y h l = h
-choice false x y h l = l
-
 end-lt : (k : Config) → endVerdict k < 20
 unfolding endVerdict
 end-lt k = choice (ltb 18 (k .values)) 15 _ (omega arith) (choice (ltb 128 ((13 * k .values + 4) / 5 + used k)) 16 0 (omega arith) (omega arith))
@@ -44,16 +41,12 @@ unfolding answer
 answer-lt c bw bh = choice (isVoid c) 1 _ (omega arith) (choice (isReserved c) 10 _ (omega arith) (verdict-lt (configOf c) bw bh))
 
 -- and no answer is above them
-refusal : (b : Bool) (x y : ℕ) → x < 23 → y < 23 → cond b x y < 23
-refusal true x y h l = h
-refusal false x y h l = l
-
 pub answer-small : (s : List ℕ) (bw bh room : ℕ) → answerOf s bw bh room < 23
 unfolding answerOf
 answer-small s bw bh room =
     let l : paramsOf (bytes 16 s) bw bh .answer < 20 = rw (answer-is (bytes 16 s) bw bh) (answer-lt (lowOf (bytes 16 s)) bw bh) in
     let m : paramsOf (bytes 16 s) bw bh .answer < 23 = omega arith in
-    refusal (not (eqb (length s) 16)) 20 _ (omega arith) (refusal (not (listed bw bh)) 21 _ (omega arith) (refusal (ltb room (bw * bh)) 22 _ (omega arith) m))
+    choice (not (eqb (length s) 16)) 20 _ (omega arith) (choice (not (listed bw bh)) 21 _ (omega arith) (choice (ltb room (bw * bh)) 22 _ (omega arith) m))
 
 -- ---- the word whose halves were painted
 pub joined-is : (f : ℕ → ℕ) (n i : ℕ) (s : List ℕ) → length s ≡ 288 → n ≤ 144 → i < n → joinedAt (put (halfAt f) 0 (2 * eights n) s) i ≡ f i

@@ -11,6 +11,7 @@ use lib.Dec.{T, eqb, ltb, leb, leb→le}
 use lib.ListN.{getD}
 use borrow.Author.Tests.{lt-ltb, ne-eqb}
 use Rattle.laws.specs.Table.{all, all-at, both, both-left, both-right, then, in-then}
+use Rattle.laws.specs.Numbers.{choice}
 use Rattle.bits.specs.Bits.{bitsAt, reversals}
 use Rattle.bits.specs.BitLaws.{bits-lt}
 use Rattle.sequence.specs.Digits.{tritTable, quintTable}
@@ -100,15 +101,11 @@ mode-lt : (c x i : ℕ) → modeOf c x i < 16
 unfolding modeOf
 mode-lt c x i = omega (arith, class-most c i, rest-most c x i)
 
-entry-lt : (t : Bool) (m : ℕ) → m < 16 → cond t m 0 < 16
-entry-lt true m h = h
-entry-lt false m h = omega arith
-
 modes-lt : (c x i : ℕ) → getD (modesOf c x) i 0 < 16
-modes-lt c x zero = entry-lt (ltb 0 (partsOf c)) _ (mode-lt c x 0)
-modes-lt c x (suc zero) = entry-lt (ltb 1 (partsOf c)) _ (mode-lt c x 1)
-modes-lt c x (suc (suc zero)) = entry-lt (ltb 2 (partsOf c)) _ (mode-lt c x 2)
-modes-lt c x (suc (suc (suc zero))) = entry-lt (ltb 3 (partsOf c)) _ (mode-lt c x 3)
+modes-lt c x zero = choice (ltb 0 (partsOf c)) _ 0 (mode-lt c x 0) (omega arith)
+modes-lt c x (suc zero) = choice (ltb 1 (partsOf c)) _ 0 (mode-lt c x 1) (omega arith)
+modes-lt c x (suc (suc zero)) = choice (ltb 2 (partsOf c)) _ 0 (mode-lt c x 2) (omega arith)
+modes-lt c x (suc (suc (suc zero))) = choice (ltb 3 (partsOf c)) _ 0 (mode-lt c x 3) (omega arith)
 modes-lt c x (suc (suc (suc (suc i)))) = omega arith
 
 mode-at : (c x i : ℕ) → i < 4 → i < partsOf c → getD (modesOf c x) i 0 ≡ modeOf c x i
@@ -132,11 +129,7 @@ count-is c x (suc n) h =
 
 number-lt : (c : ℕ) → numberOf c < 1024
 unfolding numberOf
-number-lt c = go (eqb (partsOf c) 1)
-  where
-    go : (t : Bool) → cond t 0 (bitsAt c 13 10) < 1024
-    go true = omega arith
-    go false = bits-lt c 13 10
+number-lt c = choice (eqb (partsOf c) 1) 0 (bitsAt c 13 10) (omega arith) (bits-lt c 13 10)
 
 -- ---- the parameters of a legal block
 pub record Facts (p : Params) (bw bh : ℕ) : Type 0 where

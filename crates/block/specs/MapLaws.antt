@@ -4,6 +4,7 @@ use mathlib.Core.Path.{_≡_, refl, sym, _∙_}
 use mathlib.Core.Bool.{Bool, true, false, cond, not}
 use mathlib.Core.List.{List}
 use Prim.Native.Nat.{ℕ, _*_, _≤_, _<_}
+use native.Mathlib.Nat.{suc-ne-zero}
 use native.Mathlib.Omega.{arith}
 use lib.Dec.{eqb, leb, ltb, leb→le}
 use lib.ListN.{length}
@@ -25,9 +26,6 @@ pub record LegalMap (s : List ℕ) (bw bh : ℕ) : Type 0 where
   pub answer : paramsOf (bytes 16 s) bw bh .answer ≡ 0
   pub map : blockMap s bw bh ≡ reportOf 0 (paramsOf (bytes 16 s) bw bh .map)
 
-not-zero : (n : ℕ) → 1 ≤ n → n ≡ 0 → ⊥
-not-zero n h e = omega arith
-
 pub legal-map : (s : List ℕ) (bw bh : ℕ) → blockMap s bw bh .answer ≡ 0 → LegalMap s bw bh
 unfolding mapAnswer answerOf reportOf blockMap
 legal-map s bw bh h = go (eqb (length s) 16) (listed bw bh) refl refl h
@@ -36,8 +34,8 @@ legal-map s bw bh h = go (eqb (length s) 16) (listed bw bh) refl refl h
     a = paramsOf (bytes 16 s) bw bh .answer
 
     go : (t u : Bool) → eqb (length s) 16 ≡ t → listed bw bh ≡ u → cond (not t) 20 (cond (not u) 21 (cond (ltb (bw * bh) (bw * bh)) 22 a)) ≡ 0 → LegalMap s bw bh
-    go false u p q e = absurd (not-zero 20 (omega arith) e)
-    go true false p q e = absurd (not-zero 21 (omega arith) e)
+    go false u p q e = absurd (suc-ne-zero 19 e)
+    go true false p q e = absurd (suc-ne-zero 20 e)
     go true true p q e =
         let z : a ≡ 0 = rw (le-ltb (bw * bh) (bw * bh) (omega arith)) at e in
         record { sixteen = eqb-true (length s) 16 p; listed = q; answer = z; map = rw (p, q, le-ltb (bw * bh) (bw * bh) (omega arith), z) }

@@ -4,21 +4,19 @@ use mathlib.Core.Path.{_≡_, refl, sym, _∙_}
 use mathlib.Core.Bool.{Bool, true, false, cond, not, _&&_, false≢true}
 use mathlib.Core.List.{List}
 use Prim.Native.Nat.{ℕ, _*_, _≤_, _<_}
+use native.Mathlib.Nat.{suc-ne-zero}
 use native.Mathlib.Decide.{decLt}
 use native.Mathlib.Omega.{arith}
 use lib.Dec.{eqb, ltb}
 use lib.ListN.{length}
 use borrow.Author.Tests.{eq-eqb, ne-eqb, eqb-true, lt-ltb, le-ltb, le-leb, lt-leb}
+use Rattle.laws.specs.Numbers.{choice}
 use Rattle.params.specs.Blocks.{listed}
 use Rattle.block.specs.Facts.{footprint}
 use Rattle.image.specs.Image.{totalOf, pixelsOf, paintedBlocks, isSide, refusalOf, imageOf}
 use Rattle.image.specs.Given.{Sides, Sized}
 use Rattle.image.specs.Places.{Shaped}
 use Rattle.image.specs.declared.Shape.{Shape}
-
-pub choice : (b : Bool) (x y : ℕ) → x < 35 → y < 35 → cond b x y < 35
-choice true x y h l = h
-choice false x y h l = l
 
 -- ---- a side
 pub side-bounds : (n : ℕ) → isSide n ≡ true → (1 ≤ n) × (n ≤ 4096)
@@ -74,9 +72,6 @@ refusal-small m len room =
     (choice (not (isSide (m .width) && isSide (m .height))) 30 _ (omega arith)
     (choice (not (eqb len (16 * totalOf m))) 31 _ (omega arith) (choice (ltb room (pixelsOf m)) 22 0 (omega arith) (omega arith))))
 
-not-zero : (n : ℕ) → 1 ≤ n → n ≡ 0 → ⊥
-not-zero n h e = omega arith
-
 -- the refusal 0 says all
 pub accepted : (m : Shape) (len room : ℕ) → refusalOf m len room ≡ 0 → Sized m len room
 unfolding refusalOf
@@ -84,11 +79,11 @@ accepted m len room e = go (listed (m .bw) (m .bh)) (isSide (m .width)) (isSide 
   where
     go : (a w h t : Bool) → Dec (room < pixelsOf m) → listed (m .bw) (m .bh) ≡ a → isSide (m .width) ≡ w → isSide (m .height) ≡ h → eqb len (16 * totalOf m) ≡ t
         → _≡_ {A = ℕ} (cond (not a) 21 (cond (not (w && h)) 30 (cond (not t) 31 (cond (ltb room (pixelsOf m)) 22 0)))) 0 → Sized m len room
-    go false w h t r el ew eh et x = absurd (not-zero 21 (omega arith) x)
-    go true false h t r el ew eh et x = absurd (not-zero 30 (omega arith) x)
-    go true true false t r el ew eh et x = absurd (not-zero 30 (omega arith) x)
-    go true true true false r el ew eh et x = absurd (not-zero 31 (omega arith) x)
-    go true true true true (yes r) el ew eh et x = absurd (not-zero 22 (omega arith) (rw (lt-ltb room (pixelsOf m) r) at x))
+    go false w h t r el ew eh et x = absurd (suc-ne-zero 20 x)
+    go true false h t r el ew eh et x = absurd (suc-ne-zero 29 x)
+    go true true false t r el ew eh et x = absurd (suc-ne-zero 29 x)
+    go true true true false r el ew eh et x = absurd (suc-ne-zero 30 x)
+    go true true true true (yes r) el ew eh et x = absurd (suc-ne-zero 21 (rw (lt-ltb room (pixelsOf m) r) at x))
     go true true true true (no r) el ew eh et x =
         record { footprint = el; width = side-bounds (m .width) ew; height = side-bounds (m .height) eh; bytes = eqb-true len (16 * totalOf m) et; room = omega arith }
 

@@ -8,8 +8,9 @@ use native.Mathlib.Omega.{arith}
 use lib.Dec.{eqb, ltb}
 use lib.ListN.{length}
 use borrow.Author.Tests.{ne-eqb, eqb-true, lt-ltb, le-ltb}
+use Rattle.laws.specs.Numbers.{choice}
 use Rattle.image.specs.Image.{totalOf, paintedBlocks, badIn, refusalOf, shapeOf, stepAnswer, paintedBy, movedBy, refusedAt, stepOf, stepped}
-use Rattle.image.specs.ImageLaws.{choice, refusal-small}
+use Rattle.image.specs.ImageLaws.{refusal-small}
 use Rattle.image.specs.declared.Cursor.{Cursor}
 use Rattle.image.specs.declared.Step.{Step}
 

@@ -11,6 +11,7 @@ use borrow.Author.Tests.{eq-eqb, ne-eqb, eqb-true, eqb-false}
 use Rattle.bits.specs.Bits.{bitsAt}
 use Rattle.bits.specs.BitLaws.{bits-lt}
 use Rattle.laws.specs.Table.{all-at}
+use Rattle.laws.specs.Numbers.{choice, choice-le}
 use Rattle.sequence.specs.Ranges.{rangeOf, most, tops, topOf}
 use Rattle.sequence.specs.Sequence.{per, shared, totalOf}
 use Rattle.sequence.specs.SequenceLaws.{legal}
@@ -160,17 +161,13 @@ r-most c = go (eqb (c / 1 % 4) 0)
     go true = omega arith
     go false = omega arith
 
-zero-or : (t : Bool) (x : ℕ) → x < 2 → cond t 0 x ≤ 1
-zero-or true x h = omega arith
-zero-or false x h = omega arith
-
 pub h-most : (c : ℕ) → weightH c ≤ 1
 unfolding weightH
-h-most c = zero-or (lacksDH c) _ (bits-lt c 9 1)
+h-most c = choice-le (lacksDH c) 0 (bitsAt c 9 1) (omega arith) (omega (arith, bits-lt c 9 1))
 
 pub d-most : (c : ℕ) → weightD c ≤ 1
 unfolding weightD
-d-most c = zero-or (lacksDH c) _ (bits-lt c 10 1)
+d-most c = choice-le (lacksDH c) 0 (bitsAt c 10 1) (omega arith) (omega (arith, bits-lt c 10 1))
 
 -- ---- partitions and modes
 pub parts-most : (c : ℕ) → partsOf c ≤ 4
@@ -183,11 +180,7 @@ parts-least c = omega arith
 
 pub base-most : (c : ℕ) → modeBase c ≤ 3
 unfolding modeBase bitsAt
-base-most c = go (eqb (partsOf c) 1)
-  where
-    go : (t : Bool) → cond t 0 (c / 8388608 % 4) ≤ 3
-    go true = omega arith
-    go false = omega arith
+base-most c = choice-le (eqb (partsOf c) 1) 0 (c / 8388608 % 4) (omega arith) (omega arith)
 
 pub base-parts : (c : ℕ) → (modeBase c ≡ 0 → ⊥) → 2 ≤ partsOf c
 unfolding modeBase
@@ -199,24 +192,16 @@ base-parts c h = go (eqb (partsOf c) 1) refl h
 
 pub class-most : (c i : ℕ) → classOf c i ≤ 3
 unfolding classOf
-class-most c i = go (eqb (partsOf c) 1) (eqb (modeBase c) 0)
-  where
-    go : (s t : Bool) → cond s (bitsAt c 15 2) (cond t (bitsAt c 27 2) (modeBase c - 1 + bitsAt c (25 + i) 1)) ≤ 3
-    go true t = omega (arith, bits-lt c 15 2)
-    go false true = omega (arith, bits-lt c 27 2)
-    go false false = omega (arith, base-most c, bits-lt c (25 + i) 1)
+class-most c i =
+    choice-le (eqb (partsOf c) 1) (bitsAt c 15 2) _ (omega (arith, bits-lt c 15 2))
+    (choice-le (eqb (modeBase c) 0) (bitsAt c 27 2) (modeBase c - 1 + bitsAt c (25 + i) 1) (omega (arith, bits-lt c 27 2)) (omega (arith, base-most c, bits-lt c (25 + i) 1)))
 
 pub rest-most : (c x i : ℕ) → restOf c x i ≤ 3
 unfolding restOf
-rest-most c x i = go (eqb (partsOf c) 1) (eqb (modeBase c) 0)
-  where
-    y : ℕ
-    y = bitsAt (bitsAt c 25 4 + 16 * x) (partsOf c + 2 * i) 2
-
-    go : (s t : Bool) → cond s (bitsAt c 13 2) (cond t (bitsAt c 25 2) y) ≤ 3
-    go true t = omega (arith, bits-lt c 13 2)
-    go false true = omega (arith, bits-lt c 25 2)
-    go false false = omega (arith, bits-lt (bitsAt c 25 4 + 16 * x) (partsOf c + 2 * i) 2)
+rest-most c x i =
+    let y : ℕ = bitsAt (bitsAt c 25 4 + 16 * x) (partsOf c + 2 * i) 2 in
+    choice-le (eqb (partsOf c) 1) (bitsAt c 13 2) _ (omega (arith, bits-lt c 13 2))
+    (choice-le (eqb (modeBase c) 0) (bitsAt c 25 2) y (omega (arith, bits-lt c 25 2)) (omega (arith, bits-lt (bitsAt c 25 4 + 16 * x) (partsOf c + 2 * i) 2)))
 
 pub values-most : (c p : ℕ) → valuesTo c p ≤ 8 * p
 unfolding valuesTo
@@ -240,19 +225,11 @@ values-least c (suc p) h = omega arith
 
 pub conf-most : (p : ℕ) → confLen p ≤ 29
 unfolding confLen
-conf-most p = go (eqb p 1)
-  where
-    go : (t : Bool) → cond t 17 29 ≤ 29
-    go true = omega arith
-    go false = omega arith
+conf-most p = choice-le (eqb p 1) 17 29 (omega arith) (omega arith)
 
 mode-bits-most : (c : ℕ) → modeBits c ≤ 8
 unfolding modeBits
-mode-bits-most c = go (eqb (modeBase c) 0)
-  where
-    go : (t : Bool) → cond t 0 (3 * partsOf c - 4) ≤ 8
-    go true = omega arith
-    go false = omega (arith, parts-most c)
+mode-bits-most c = choice-le (eqb (modeBase c) 0) 0 (3 * partsOf c - 4) (omega arith) (omega (arith, parts-most c))
 
 -- ---- all of it
 pub weights-most : (c : ℕ) → gridOf c .width * gridOf c .height * planesOf c ≤ 288
@@ -290,11 +267,6 @@ extra-lt v s n h = lt-of-lt-of-le (bits-lt v s n) (pow-mono h)
 
 pub upper-lt : (p e v s n : ℕ) → e ≡ bitsAt v s n → n ≤ 10 → upperOf p e < 1024
 unfolding upperOf
-upper-lt p e v s n q h = go (eqb p 2)
-  where
-    l : e < 1024
-    l = rw q (extra-lt v s n h)
-
-    go : (t : Bool) → cond t (e / 4) e < 1024
-    go true = omega (arith, l)
-    go false = l
+upper-lt p e v s n q h =
+    let l : e < 1024 = rw q (extra-lt v s n h) in
+    choice (eqb p 2) (e / 4) e (omega arith) l

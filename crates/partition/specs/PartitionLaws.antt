@@ -11,6 +11,7 @@ use native.Mathlib.Decide.{decLt}
 use lib.Dec.{eqb, leb, ltb, leb→le}
 use borrow.Author.Tests.{leb-true, le-leb, lt-leb, lt-ltb, le-ltb}
 use Rattle.laws.specs.Table.{all-at}
+use Rattle.laws.specs.Numbers.{choice}
 use mathlib.Core.List.{List}
 use Rattle.laws.specs.Lists.{texels, put, putAt, put-row, put-same}
 use Rattle.partition.specs.Partition.{xorDown, xorUp, addUp, subUp, hash52, seedOf, byBit, byCount, shiftX, shiftY, factor, ramp, largest, select, scaleOf, partitionAt}
@@ -86,30 +87,16 @@ largest-fourth a b c d p q r = sym (not-ab a b c d d _ p q (inr refl) ∙ rw (lt
 -- ---- every partition is below the count
 below-four : (a b c d : ℕ) → largest a b c d < 4
 unfolding largest
-below-four a b c d = go (leb b a && (leb c a && leb d a)) (leb c b && leb d b) (leb d c)
-  where
-    go : (s t u : Bool) → cond s 0 (cond t 1 (cond u 2 3)) < 4
-    go true t u = omega arith
-    go false true u = omega arith
-    go false false true = omega arith
-    go false false false = omega arith
+below-four a b c d =
+    choice (leb b a && (leb c a && leb d a)) 0 _ (omega arith) (choice (leb c b && leb d b) 1 _ (omega arith) (choice (leb d c) 2 3 (omega arith) (omega arith)))
 
 below-three : (a b c : ℕ) → largest a b c 0 < 3
 unfolding largest
-below-three a b c = rw (le-leb 0 c (omega arith)) (go (leb b a && (leb c a && leb 0 a)) (leb c b && leb 0 b))
-  where
-    go : (s t : Bool) → cond s 0 (cond t 1 2) < 3
-    go true t = omega arith
-    go false true = omega arith
-    go false false = omega arith
+below-three a b c = rw (le-leb 0 c (omega arith)) (choice (leb b a && (leb c a && leb 0 a)) 0 _ (omega arith) (choice (leb c b && leb 0 b) 1 2 (omega arith) (omega arith)))
 
 below-two : (a b : ℕ) → largest a b 0 0 < 2
 unfolding largest
-below-two a b = rw (le-leb 0 b (omega arith)) (go (leb b a && (leb 0 a && leb 0 a)))
-  where
-    go : (s : Bool) → cond s 0 1 < 2
-    go true = omega arith
-    go false = omega arith
+below-two a b = rw (le-leb 0 b (omega arith)) (choice (leb b a && (leb 0 a && leb 0 a)) 0 1 (omega arith) (omega arith))
 
 pub partition-below : (number parts bw bh i : ℕ) → 2 ≤ parts → parts ≤ 4 → partitionAt number parts bw bh i < parts
 unfolding partitionAt select

@@ -1,7 +1,7 @@
 -- What callers need of the weights: their number, that each is at most 64, and which entry is which texel's.
 -- Assumes nothing.
 use mathlib.Core.Path.{_≡_, _∙_}
-use mathlib.Core.Bool.{Bool, true, false, cond, _&&_}
+use mathlib.Core.Bool.{_&&_}
 use mathlib.Core.List.{List}
 use Prim.Native.Nat.{ℕ, _*_, _/_, _%_, _≤_, _<_, zero-le}
 use native.Mathlib.Nat.{zero-add, mod-lt}
@@ -9,6 +9,7 @@ use native.Mathlib.Omega.{arith}
 use native.Mathlib.Decide.{decLt}
 use lib.Dec.{ltb}
 use lib.ListN.{length, getD}
+use Rattle.laws.specs.Numbers.{choice-le}
 use Rattle.laws.specs.Lists.{length-listOf, getD-listOf, getD-past}
 use Rattle.weights.specs.Infill.{infillAt, texelOf, infillOf, gridOf, weightAt, weightsOf}
 use Rattle.weights.specs.Given.{Encoded}
@@ -23,11 +24,8 @@ infill-le g at b p s t h = infilled-le b _ _ (factors-total _ _ (mod-lt _ (omega
 
 pub texel-le : (g : Grid) (at : ℕ → ℕ) (b p i : ℕ) → ((k : ℕ) → at k ≤ b) → texelOf g at p i ≤ b
 unfolding texelOf
-texel-le g at b p i h = either (ltb p (g .planes) && ltb i (g .bw * g .bh))
-  where
-    either : (c : Bool) → cond c (infillAt g at p (i % g .bw) (i / g .bw)) 0 ≤ b
-    either true = infill-le g at b p (i % g .bw) (i / g .bw) h
-    either false = zero-le
+texel-le g at b p i h =
+    choice-le (ltb p (g .planes) && ltb i (g .bw * g .bh)) (infillAt g at p (i % g .bw) (i / g .bw)) 0 (infill-le g at b p (i % g .bw) (i / g .bw) h) zero-le
 
 pub weights-length : (g : Grid) (q : ℕ) (seq : List ℕ) → length (weightsOf g q seq) ≡ 288
 unfolding weightsOf infillOf

@@ -10,6 +10,7 @@ use native.Mathlib.Decide.{decLt}
 use lib.Dec.{ltb}
 use lib.ListN.{getD, replicate}
 use borrow.Author.Tests.{lt-ltb, le-ltb}
+use Rattle.laws.specs.Numbers.{choice}
 use Rattle.laws.specs.Lists.{listOf, putAt, listOf-same, putAt-listOf, zeros-at, zeros-all, getD-listOf, put}
 use Rattle.weights.specs.Infill.{placeOf, infilled, infillAt, texelOf, infillOf}
 use Rattle.weights.specs.Given.{Fits, countOf}
@@ -49,11 +50,7 @@ column-at g fits f l s e h =
     rw e (zeros-at f (eights (g .bw)) 16 s (omega (arith, sides-in fits)) ∙ rw (lt-ltb s (eights (g .bw)) (omega arith)))
 
 pub column-lt : (g : Grid) → Fits g → (f : ℕ → ℕ) (l : List ℕ) (s : ℕ) → l ≡ put f 0 (eights (g .bw)) (replicate 16 0) → f s < 16 → getD l s 0 < 16
-column-lt g fits f l s e h = rw (e, zeros-at f (eights (g .bw)) 16 s (omega (arith, sides-in fits))) (either (ltb s (eights (g .bw))))
-  where
-    either : (b : Bool) → cond b (f s) 0 < 16
-    either true = h
-    either false = omega arith
+column-lt g fits f l s e h = rw (e, zeros-at f (eights (g .bw)) 16 s (omega (arith, sides-in fits))) (choice (ltb s (eights (g .bw))) (f s) 0 h (omega arith))
 
 -- texels that agree
 pub texels-same : (g : Grid) (f h : ℕ → ℕ → ℕ) → Fits g → ((s t : ℕ) → s < g .bw → t < g .bh → f s t ≡ h s t) → texels g f ≡ texels g h

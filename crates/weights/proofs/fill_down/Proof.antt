@@ -3,9 +3,10 @@ use mathlib.Core.Path.{_≡_, ap, _∙_}
 use Prim.Native.Nat.{ℕ, _*_, _-_, _/_, _%_, _≤_, _<_, zero-le}
 use native.Mathlib.Omega.{arith}
 use lib.ListN.{getD}
+use Rattle.laws.specs.Numbers.{choice-le}
 use Rattle.laws.specs.Lists.{listOf, zeros-at}
 use Rattle.weights.specs.Fast.{eights, downOf, wholeAt, wholeOf}
-use mathlib.Core.Bool.{Bool, true, false, cond}
+use mathlib.Core.Bool.{cond}
 use native.Mathlib.Nat.{mul-le-mul, mul-one, mul-zero}
 use lib.Dec.{ltb}
 use borrow.Author.Tests.{lt-ltb, le-ltb}
@@ -31,11 +32,7 @@ kept-past : (c : tie.After-inside Inv-loop μ-loop) (s : ℕ) → c .before .bef
 kept-past c s h = kept c s ∙ rw (le-ltb s (c .before .before .args .g .bw) h)
 
 kept-le : (c : tie.After-inside Inv-loop μ-loop) (s : ℕ) → getD (c .inside .last .0) s 0 ≤ 1
-kept-le c s = rw (kept c s) (either (ltb s (c .before .before .args .g .bw)))
-  where
-    either : (b : Bool) → cond b 1 0 ≤ 1
-    either true = omega arith
-    either false = omega arith
+kept-le c s = rw (kept c s) (choice-le (ltb s (c .before .before .args .g .bw)) 1 0 (omega arith) (omega arith))
 
 at-place : (c : tie.After-place Inv-loop μ-loop) → c .place .result ≡ downOf (c .before .before .before .before .before .before .before .before .before .args .g) (c .before .before .before .loop .t)
 at-place c = down-at (c .before .before .before .before .before .before .before .before .before .args .g) (c .before .before .before .before .before .before .step-of .result) (c .place .result) (c .before .before .before .loop .t) (c .place .ensures .0) (c .before .before .before .before .before .before .step-of .ensures .0)
