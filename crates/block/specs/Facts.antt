@@ -57,22 +57,21 @@ pub record Footprint (bw bh : ℕ) : Type 0 where
   pub side : isSide bw ≡ true
   pub side-high : isSide bh ≡ true
   pub sides : Sides bw bh
-  pub wide : (4 ≤ bw) × (bw ≤ 12)
-  pub high : (4 ≤ bh) × (bh ≤ 12)
+  pub row : 0 < bh
   pub texels : bw * bh ≤ 144
 
 is-true : (b : Bool) → T b → b ≡ true
 is-true true t = refl
 is-true false t = absurd t
 
--- a side is 4 to 12
+-- no side is 0
 sideTest : ℕ → Bool
 unfolding isSide
-sideTest n = then (isSide n) (leb 4 n)
+sideTest n = then (isSide n) (leb 1 n)
 
-side-least : (n : ℕ) → n < 13 → isSide n ≡ true → 4 ≤ n
+side-some : (n : ℕ) → n < 13 → isSide n ≡ true → 0 < n
 unfolding sideTest
-side-least n h e = leb→le 4 n (in-then (isSide n) (leb 4 n) (all-at sideTest 13 tt n h) e)
+side-some n h e = leb→le 1 n (in-then (isSide n) (leb 1 n) (all-at sideTest 13 tt n h) e)
 
 pub footprint : (bw bh : ℕ) → listed bw bh ≡ true → Footprint bw bh
 unfolding sidesTest
@@ -90,9 +89,8 @@ footprint bw bh e = go (decLt bw 13) (decLt bh 13)
         record {
           side = s;
           side-high = r;
-          sides = record { some = omega (arith, side-least bw p s); width = u; height = w };
-          wide = (side-least bw p s, u);
-          high = (side-least bh q r, w);
+          sides = record { some = side-some bw p s; width = u; height = w };
+          row = side-some bh q r;
           texels = mul-le-mul u w;
         }
 

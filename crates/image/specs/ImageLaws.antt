@@ -33,8 +33,8 @@ sides-of m l w h =
     record {
       width = side-bounds (m .width) w .1;
       height = side-bounds (m .height) h .1;
-      bw = (omega (arith, f .wide .0), f .wide .1);
-      bh = (omega (arith, f .high .0), f .high .1);
+      bw = (f .sides .some, f .sides .width);
+      bh = (f .row, f .sides .height);
     }
 
 -- ---- the checks
@@ -92,12 +92,12 @@ module _ (m : Shape) (len places : ℕ) (s : Sized m len places) where
   pub sized-sides : Sides m
   sized-sides =
       let f = footprint (m .bw) (m .bh) (s .footprint) in
-      record { width = s .width .1; height = s .height .1; bw = (omega (arith, f .wide .0), f .wide .1); bh = (omega (arith, f .high .0), f .high .1) }
+      record { width = s .width .1; height = s .height .1; bw = (f .sides .some, f .sides .width); bh = (f .row, f .sides .height) }
 
   pub sized-shaped : Shaped m
   sized-shaped =
       let f = footprint (m .bw) (m .bh) (s .footprint) in
-      record { width = omega (arith, s .width .0); height = omega (arith, s .height .0); bw = omega (arith, f .wide .0); bh = omega (arith, f .high .0) }
+      record { width = s .width .0; height = s .height .0; bw = f .sides .some; bh = f .row }
 
 -- ---- the whole image
 module _ (d : List ℕ) (m : Shape) (out : List ℕ) (a : ℕ) (e : a ≡ refusalOf m (length d) (length out)) where
