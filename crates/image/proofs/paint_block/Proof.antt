@@ -71,7 +71,7 @@ returns-2 c =
     let s = c .before .before .before .before .before .before .before .before .before .before .before .before .before .before in
     let p = s .pre .1 in
     let d = c .before .before .before .before .before .before .decode-halves .ensures in
-    let a : 0 ≡ paramsOf (valueOf (c .before .before .before .before .before .before .before .before .before .before .load .result)) (s .args .m .bw) (s .args .m .bh) .answer = sym (c .before .before .before .before .before .if2 .taken) ∙ d .0 in
+    let a : 0 ≡ paramsOf (valueOf (c .before .before .before .before .before .before .before .before .before .before .load .result)) (s .args .m .bw) (s .args .m .bh) .answer = rw (c .before .before .before .before .before .if2 .taken) at (d .0) in
     block-painted (s .args .«data» .now) (s .args .m) _ (s .args .b) (sixteen s) _ _ (p .0) (p .1 .0) (c .before .before .before .before .before .before .before .before .before .before .load .ensures) (omega arith) a _ (joinedAt (c .before .before .before .before .before .before .decode-halves .last .1 .1 .1 .1 .1 .1 .0)) (c .before .before .before .before .before .before .decode-halves .last .1 .1 .1 .1 .1 .1 .0) _ _ (p .1 .1 .1 .0) (halves-length _ _ _ 288 _ _ (p .1 .1 .1 .1) (d .1)) (λ t l. joined-legal _ _ _ t _ _ (p .1 .1 .1 .1) (footprint _ _ (p .0 .footprint) .texels) l (sym a) (d .1)) (c .before .before .copy-block .ensures)
 
 fill-block-requires-2 : tie.Need-fill-block-requires-2
@@ -86,7 +86,7 @@ returns-3 c =
     let p = s .pre .1 in
     let z : isVoid (valueOf (c .before .before .before .before .before .before .before .before .before .load .result)) ≡ false = sym (c .before .before .before .before .before .before .before .before .is-void .ensures) ∙ c .before .before .before .before .before .before .before .if1 .left in
     let d = c .before .before .before .before .before .decode-halves .ensures in
-    block-painted (s .args .«data» .now) (s .args .m) _ (s .args .b) (sixteen s) _ _ (p .0) (p .1 .0) (c .before .before .before .before .before .before .before .before .before .load .ensures) (omega arith) (d .0) _ (λ (t : ℕ). 0xffff00ff) (c .before .before .before .before .before .decode-halves .last .1 .1 .1 .1 .1 .1 .0) _ _ (p .1 .1 .1 .0) (halves-length _ _ _ 288 _ _ (p .1 .1 .1 .1) (d .1)) (λ t l. word-refused _ _ _ z (λ q. c .before .before .before .before .if2 .left (d .0 ∙ q)) t) (c .before .before .fill-block2 .ensures)
+    block-painted (s .args .«data» .now) (s .args .m) _ (s .args .b) (sixteen s) _ _ (p .0) (p .1 .0) (c .before .before .before .before .before .before .before .before .before .load .ensures) (omega arith) (d .0) _ (λ (t : ℕ). 0xffff00ff) (c .before .before .before .before .before .decode-halves .last .1 .1 .1 .1 .1 .1 .0) _ _ (p .1 .1 .1 .0) (halves-length _ _ _ 288 _ _ (p .1 .1 .1 .1) (d .1)) (λ t l. word-refused _ _ _ z (λ q. c .before .before .before .before .if2 .left (rw q at (d .0))) t) (c .before .before .fill-block2 .ensures)
 
 pub paint-block-spec : {M : Type 1} → statement M
 paint-block-spec =
