@@ -93,19 +93,13 @@ static void map_block(const uint8_t *record) {
     free(block);
 }
 
-static void refuse_block(size_t length, size_t bw, size_t bh, size_t room, uint32_t answer) {
-    uint8_t *block = marked(length);
-    uint32_t *out = marked(4 * room);
-    hold(astc_decode_block(block, length, bw, bh, out, room) == answer, "the answer of a refused block");
-    hold_marked(out, 4 * room);
-    free(block);
-    refusals++;
-}
+/* The block and its map take the same arguments. */
+typedef uint32_t (*block_call)(const uint8_t *, size_t, size_t, size_t, uint32_t *, size_t);
 
-static void refuse_map(size_t length, size_t bw, size_t bh, size_t room, uint32_t answer) {
+static void refuse(block_call call, size_t length, size_t bw, size_t bh, size_t room, uint32_t answer) {
     uint8_t *block = marked(length);
     uint32_t *out = marked(4 * room);
-    hold(astc_block_map(block, length, bw, bh, out, room) == answer, "the answer of a refused map");
+    hold(call(block, length, bw, bh, out, room) == answer, "the answer of a refused block or map");
     hold_marked(out, 4 * room);
     free(block);
     refusals++;
@@ -125,16 +119,16 @@ static void refuse_blocks(void) {
         for (size_t bh = 0; bh <= 20; bh++) {
             for (size_t length = 0; length <= 33; length++) {
                 uint32_t answer = length != BLOCK ? ASTC_BLOCK_LENGTH : listed(bw, bh) ? ASTC_OUTPUT_TOO_SHORT : ASTC_FOOTPRINT;
-                refuse_block(length, bw, bh, 0 < bw * bh ? bw * bh - 1 : 0, answer);
-                refuse_map(length, bw, bh, NUMBERS - 1, answer);
+                refuse(astc_decode_block, length, bw, bh, 0 < bw * bh ? bw * bh - 1 : 0, answer);
+                refuse(astc_block_map, length, bw, bh, NUMBERS - 1, answer);
             }
         }
     }
-    refuse_block(BLOCK, SIZE_MAX, SIZE_MAX, 1, ASTC_FOOTPRINT);
-    refuse_block(BLOCK, SIZE_MAX / 2 + 1, 2, 0, ASTC_FOOTPRINT);
-    refuse_block(0, 4, 4, 0, ASTC_BLOCK_LENGTH);
-    refuse_block(BLOCK, 4, 4, 0, ASTC_OUTPUT_TOO_SHORT);
-    refuse_map(BLOCK, 12, 12, 0, ASTC_OUTPUT_TOO_SHORT);
+    refuse(astc_decode_block, BLOCK, SIZE_MAX, SIZE_MAX, 1, ASTC_FOOTPRINT);
+    refuse(astc_decode_block, BLOCK, SIZE_MAX / 2 + 1, 2, 0, ASTC_FOOTPRINT);
+    refuse(astc_decode_block, 0, 4, 4, 0, ASTC_BLOCK_LENGTH);
+    refuse(astc_decode_block, BLOCK, 4, 4, 0, ASTC_OUTPUT_TOO_SHORT);
+    refuse(astc_block_map, BLOCK, 12, 12, 0, ASTC_OUTPUT_TOO_SHORT);
 }
 
 /* An image of stored blocks, one beside the other. */
