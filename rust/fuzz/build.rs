@@ -7,7 +7,9 @@ fn main() {
     if let Ok(runtime) = env::var("FUZZER_RUNTIME") {
         println!("cargo:rerun-if-changed={runtime}");
         println!("cargo:rustc-cfg=libfuzzer");
-        println!("cargo:rustc-link-arg-bins={runtime}");
-        println!("cargo:rustc-link-arg-bins=-lstdc++");
+        // the C library stands before the runtime on Rust's own line, and is named once more after it
+        for link in [runtime.as_str(), "-lstdc++", "-lm", "-lgcc", "-lc"] {
+            println!("cargo:rustc-link-arg-bins={link}");
+        }
     }
 }
