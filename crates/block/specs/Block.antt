@@ -14,9 +14,9 @@ use Rattle.half.specs.Half.{voidByteOf}
 use Rattle.params.specs.Blocks.{listed, noMap, paramsOf}
 use Rattle.params.specs.declared.Map.{Map}
 use Rattle.params.specs.declared.Params.{Params}
-use Rattle.unquantise.specs.Unquantised.{endpointValues}
+use Rattle.endpoints_unquantise.specs.Unquantised.{endpointValues}
 use Rattle.endpoints.specs.Endpoints.{endpointsList}
-use Rattle.colours.specs.declared.Endpoints.{Endpoints}
+use Rattle.endpoints_colours.specs.declared.Endpoints.{Endpoints}
 use Rattle.weights.specs.Infill.{weightsOf}
 use Rattle.weights.specs.declared.Grid.{Grid}
 use Rattle.partition.specs.Partition.{partitionAt}

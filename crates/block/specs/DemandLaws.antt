@@ -16,10 +16,10 @@ use Rattle.params.specs.Blocks.{answer, lowOf, legal, mapOf, paramsOf}
 use Rattle.params.specs.Laws.{Fields, Mapped, SameBlock, map-fields, range-is, answer-is, legal-is, unmapped}
 use Rattle.params.specs.declared.Map.{Map}
 use Rattle.params.specs.declared.Params.{Params}
-use Rattle.colours.specs.Bounds.{limit, Within as EndsWithin}
-use Rattle.colours.specs.declared.Mark.{Mark}
-use Rattle.colours.specs.declared.Mark.the-variants.{Ldr}
-use Rattle.colours.specs.declared.Endpoints.{Endpoints}
+use Rattle.endpoints_colours.specs.Bounds.{limit, Within as EndsWithin}
+use Rattle.endpoints_colours.specs.declared.Mark.{Mark}
+use Rattle.endpoints_colours.specs.declared.Mark.the-variants.{Ldr}
+use Rattle.endpoints_colours.specs.declared.Endpoints.{Endpoints}
 use Rattle.blend.specs.BlendLaws.{Within, ldr-within}
 use Rattle.texels.specs.Texels.{channelBy, wordBy, texelWord}
 use Rattle.texels.specs.PaintLaws.{channel-byte, low-half, high-half, limit-of}

@@ -11,10 +11,10 @@ use Rattle.sequence.specs.Ranges.{topOf}
 use Rattle.params.specs.Ranges.{cost}
 use Rattle.params.specs.Blocks.{paramsOf}
 use Rattle.params.specs.declared.Params.{Params}
-use Rattle.colours.specs.Colours.{nothing}
-use Rattle.colours.specs.declared.Mark.{Mark}
-use Rattle.colours.specs.declared.Mark.the-variants.{Ldr}
-use Rattle.colours.specs.declared.Endpoints.{Endpoints}
+use Rattle.endpoints_colours.specs.Colours.{nothing}
+use Rattle.endpoints_colours.specs.declared.Mark.{Mark}
+use Rattle.endpoints_colours.specs.declared.Mark.the-variants.{Ldr}
+use Rattle.endpoints_colours.specs.declared.Endpoints.{Endpoints}
 use Rattle.blend.specs.BlendLaws.{Within}
 use Rattle.block.specs.Block.{endsOf, endsField, weightsIn, weightsField, partitionsIn, blockWord, answerOf, paintedOf, blockMap}
 use Rattle.block.specs.declared.BlockMap.{BlockMap}

@@ -21,13 +21,13 @@ use Rattle.params.specs.Blocks.{lowOf, paramsOf}
 use Rattle.params.specs.Config.{isVoid}
 use Rattle.params.specs.Laws.{answer-is, answer-1, void-low, void-alone}
 use Rattle.params.specs.declared.Params.{Params}
-use Rattle.unquantise.specs.Unquantised.{endpointValues}
-use Rattle.unquantise.specs.Bounds.{values-lt as endpoint-values-lt}
+use Rattle.endpoints_unquantise.specs.Unquantised.{endpointValues}
+use Rattle.endpoints_unquantise.specs.Bounds.{values-lt as endpoint-values-lt}
 use Rattle.endpoints.specs.Endpoints.{endpointsList}
 use Rattle.endpoints.specs.Bounds.{partition-within}
-use Rattle.colours.specs.declared.Endpoints.{Endpoints}
-use Rattle.colours.specs.Colours.{nothing}
-use Rattle.colours.specs.Bounds.{Within}
+use Rattle.endpoints_colours.specs.declared.Endpoints.{Endpoints}
+use Rattle.endpoints_colours.specs.Colours.{nothing}
+use Rattle.endpoints_colours.specs.Bounds.{Within}
 use Rattle.weights.specs.Given.{Given}
 use Rattle.weights.specs.Bounds.{weights-le}
 use Rattle.weights.specs.Infill.{weightsOf}

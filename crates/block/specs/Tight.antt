@@ -21,15 +21,15 @@ use Rattle.params.specs.Config.{isVoid}
 use Rattle.params.specs.Blocks.{listed, paramsOf, judgedOf}
 use Rattle.params.specs.declared.Judged.{Judged}
 use Rattle.params.specs.declared.Params.{Params}
-use Rattle.unquantise.specs.Unquantised.{endpointValues}
-use Rattle.colours.specs.declared.Endpoints.{Endpoints}
-use Rattle.colours.specs.declared.Values.{Values}
-use Rattle.hdr_numbers.specs.Hdr.{sevenOf}
-use Rattle.hdr_numbers.specs.HdrLaws.{Below}
-use Rattle.hdr_numbers.specs.Hdr11Laws.{elevenOf, Small}
-use Rattle.hdr_numbers.specs.declared.Seven.{Seven}
-use Rattle.hdr_numbers.specs.declared.Eleven.{Eleven}
-use Rattle.modes.specs.Modes.{endpointsOf}
+use Rattle.endpoints_unquantise.specs.Unquantised.{endpointValues}
+use Rattle.endpoints_colours.specs.declared.Endpoints.{Endpoints}
+use Rattle.endpoints_colours.specs.declared.Values.{Values}
+use Rattle.endpoints_hdr.specs.Hdr.{sevenOf}
+use Rattle.endpoints_hdr.specs.HdrLaws.{Below}
+use Rattle.endpoints_hdr.specs.Hdr11Laws.{elevenOf, Small}
+use Rattle.endpoints_hdr.specs.declared.Seven.{Seven}
+use Rattle.endpoints_hdr.specs.declared.Eleven.{Eleven}
+use Rattle.endpoints_modes.specs.Modes.{endpointsOf}
 use Rattle.endpoints.specs.Endpoints.{endpointsList}
 use Rattle.weights.specs.Infill.{weightsOf}
 use Rattle.weights.specs.declared.Grid.{Grid}

@@ -13,11 +13,11 @@ use Rattle.half.specs.Half.{voidByte}
 use Rattle.params.specs.Ranges.{cost, widest}
 use Rattle.params.specs.Config.{isVoid, isReserved, lacksDH, gridLow, gridHigh, gridOf as modeGrid, weightR, weightH, weightD, partsOf, numberOf, modeBase, classOf, restOf, modeOf, valuesTo, confLen, modeBits, configOf}
 use Rattle.params.specs.Blocks.{oneOf2, listed, endVerdict, verdict, answer, lowOf, mapOf, channelOf, upperOf, legal, refused, paramsOf}
-use Rattle.unquantise.specs.Patterns.{tritRows, quintRows}
-use Rattle.unquantise.specs.Unquantised.{byRow, unquantise, endpointValue, endpointValues}
-use Rattle.modes.specs.Ldr.{baseOf, offsetOf, luminance}
-use Rattle.hdr_numbers.specs.Hdr.{rgb, hdr, opaque}
-use Rattle.modes.specs.Modes.{byMode, endpointsOf}
+use Rattle.endpoints_unquantise.specs.Patterns.{tritRows, quintRows}
+use Rattle.endpoints_unquantise.specs.Unquantised.{byRow, unquantise, endpointValue, endpointValues}
+use Rattle.endpoints_modes.specs.Ldr.{baseOf, offsetOf, luminance}
+use Rattle.endpoints_hdr.specs.Hdr.{rgb, hdr, opaque}
+use Rattle.endpoints_modes.specs.Modes.{byMode, endpointsOf}
 use Rattle.endpoints.specs.Endpoints.{valuesAt, countTo, partitionEndpoints, endpointsList}
 use Rattle.endpoints.specs.Values.{ofList, values as endpoint-values}
 use Rattle.weights.specs.Weights.{alone, table, joined, digit, expanded, raised, weightOf}

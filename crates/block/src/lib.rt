@@ -14,7 +14,7 @@ ghost use Rattle.texels.specs.Texels.{halfAt, eights};
 ghost use Rattle.block.specs.Block.{endsOf, endsField, weightsIn, weightsField, partitionsIn, ordinaryWord, voidWord, blockWord, halvesOf, joinedAt, answerOf, paintedOf, reportOf, blockMap};
 ghost use Rattle.block.specs.Facts.{Facts, Footprint, Tables};
 use bits::Block;
-use colours::Endpoints;
+use endpoints_colours::Endpoints;
 use params::Map;
 use params::Params;
 use weights::Grid;
@@ -48,7 +48,7 @@ fn ends_of(
         k.values,
     );
     let mut ev = [0u8; 32];
-    unquantise::unquantize(&mut ev, k.values, range, &seq);
+    endpoints_unquantise::unquantize(&mut ev, k.values, range, &seq);
     endpoints::decode_endpoints(k.parts, modes, &ev)
 }
 
@@ -172,7 +172,7 @@ fn paint_ordinary(
     weights_of(&mut d.weights, rev, t, q, b, p, bw, bh);
     partition_of(&mut d.partition, p, bw, bh);
     let ends = d.endpoints;
-    paint::applicate_color(
+    texels_paint::applicate_color(
         out,
         d.n,
         d.parts,

@@ -9,20 +9,20 @@ use native.Mathlib.Omega.{arith}
 use lib.Dec.{eqb, leb, ltb, lit<}
 use lib.ListN.{getD}
 use borrow.Author.Tests.{eqb-false}
-use Rattle.colours.specs.Colours.{Colour, ldr, nothing}
-use Rattle.colours.specs.Bounds.{limit, Within}
-use Rattle.modes.specs.Ldr.{offsetOf, clampedPair, luminance, luminanceOffset, luminanceAlphaOffset, scaled, direct, offset}
-use Rattle.hdr_numbers.specs.Hdr.{rgb, alphas, opaque, hdr, less, grey, luminanceLarge, luminanceSmall, swapped, sevenLess, hdr7}
-use Rattle.hdr_numbers.specs.Hdr11.{elevenMajor, under, elevenFirst, elevenSecond, hdr11, plainAlphas, offsetAlphas, hdrAlphas}
-use Rattle.hdr_numbers.specs.Hdr11Laws.{alphas-0, alphas-1, alphas-2}
-use Rattle.modes.specs.Modes.{byMode, endpointsOf}
+use Rattle.endpoints_colours.specs.Colours.{Colour, ldr, nothing}
+use Rattle.endpoints_colours.specs.Bounds.{limit, Within}
+use Rattle.endpoints_modes.specs.Ldr.{offsetOf, clampedPair, luminance, luminanceOffset, luminanceAlphaOffset, scaled, direct, offset}
+use Rattle.endpoints_hdr.specs.Hdr.{rgb, alphas, opaque, hdr, less, grey, luminanceLarge, luminanceSmall, swapped, sevenLess, hdr7}
+use Rattle.endpoints_hdr.specs.Hdr11.{elevenMajor, under, elevenFirst, elevenSecond, hdr11, plainAlphas, offsetAlphas, hdrAlphas}
+use Rattle.endpoints_hdr.specs.Hdr11Laws.{alphas-0, alphas-1, alphas-2}
+use Rattle.endpoints_modes.specs.Modes.{byMode, endpointsOf}
 use Rattle.endpoints.specs.Endpoints.{valuesAt, countTo, partitionEndpoints, endpointsList}
-use Rattle.colours.specs.declared.Mark.the-variants.{Hdr}
-use Rattle.colours.specs.declared.Endpoints.{Endpoints}
-use Rattle.hdr_numbers.specs.declared.Rgb.{Rgb}
-use Rattle.hdr_numbers.specs.declared.Seven.{Seven}
-use Rattle.colours.specs.declared.Values.{Values}
-use Rattle.colours.specs.declared.Alphas.{Alphas}
+use Rattle.endpoints_colours.specs.declared.Mark.the-variants.{Hdr}
+use Rattle.endpoints_colours.specs.declared.Endpoints.{Endpoints}
+use Rattle.endpoints_hdr.specs.declared.Rgb.{Rgb}
+use Rattle.endpoints_hdr.specs.declared.Seven.{Seven}
+use Rattle.endpoints_colours.specs.declared.Values.{Values}
+use Rattle.endpoints_colours.specs.declared.Alphas.{Alphas}
 
 pub record Bytes (v : Values) : Type 0 where
   pub v0 : v .v0 < 256

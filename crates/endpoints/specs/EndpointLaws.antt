@@ -8,9 +8,9 @@ use native.Mathlib.Numerals.{add-one}
 use native.Mathlib.Omega.{arith}
 use native.Mathlib.Decide.{decLt}
 use lib.ListN.{getD, set}
-use Rattle.modes.specs.Modes.{endpointsOf}
+use Rattle.endpoints_modes.specs.Modes.{endpointsOf}
 use Rattle.endpoints.specs.Endpoints.{valuesAt, countOf, countTo, partitionEndpoints, endpointsList}
-use Rattle.colours.specs.declared.Endpoints.{Endpoints}
+use Rattle.endpoints_colours.specs.declared.Endpoints.{Endpoints}
 
 pub count-mono : (modes : List ℕ) (i n : ℕ) → i ≤ n → countTo modes i ≤ countTo modes n
 unfolding countTo

@@ -5,10 +5,10 @@ use mathlib.Core.List.{List, [], _∷_}
 use Prim.Native.Nat.{ℕ, zero, suc, _+_, _*_, _/_}
 use lib.Dec.{ltb}
 use lib.ListN.{getD}
-use Rattle.colours.specs.Colours.{nothing}
-use Rattle.modes.specs.Modes.{endpointsOf}
-use Rattle.colours.specs.declared.Endpoints.{Endpoints}
-use Rattle.colours.specs.declared.Values.{Values}
+use Rattle.endpoints_colours.specs.Colours.{nothing}
+use Rattle.endpoints_modes.specs.Modes.{endpointsOf}
+use Rattle.endpoints_colours.specs.declared.Endpoints.{Endpoints}
+use Rattle.endpoints_colours.specs.declared.Values.{Values}
 
 -- the eight values from place k on
 unfoldable pub valuesAt : List ℕ → ℕ → Values

@@ -2,11 +2,11 @@
 ghost use mathlib.Core.Path.{_≡_};
 ghost use Prim.Native.Nat.{ℕ, _≤_, _<_};
 ghost use lib.ListN.{getD};
-ghost use Rattle.colours.specs.Colours.{nothing};
+ghost use Rattle.endpoints_colours.specs.Colours.{nothing};
 ghost use Rattle.endpoints.specs.Endpoints.{valuesAt, countOf, countTo, endpointsList};
-use colours::Endpoints;
-use colours::Mark;
-use colours::Values;
+use endpoints_colours::Endpoints;
+use endpoints_colours::Mark;
+use endpoints_colours::Values;
 
 fn no_endpoints() -> Endpoints
     ensures { λ r. ⌜ r ≡ nothing ⌝ }
@@ -58,7 +58,7 @@ pub fn decode_endpoints(parts: usize, modes: [u8; 4], ev: &[u8; 32]) -> [Endpoin
     let mut i = 0;
     while i < parts {
         let m = modes[i];
-        out[i] = modes::decode_mode(m, values_at(ev, k));
+        out[i] = endpoints_modes::decode_mode(m, values_at(ev, k));
         k += values_of(m);
         i += 1;
     }

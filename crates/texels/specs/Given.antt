@@ -3,9 +3,9 @@
 use mathlib.Core.List.{List}
 use Prim.Native.Nat.{ℕ, _≤_, _<_}
 use lib.ListN.{getD}
-use Rattle.colours.specs.Bounds.{Within}
-use Rattle.colours.specs.Colours.{nothing}
-use Rattle.colours.specs.declared.Endpoints.{Endpoints}
+use Rattle.endpoints_colours.specs.Bounds.{Within}
+use Rattle.endpoints_colours.specs.Colours.{nothing}
+use Rattle.endpoints_colours.specs.declared.Endpoints.{Endpoints}
 
 -- n texels in a number of partitions and planes, with the endpoints, weights and map that the layers below make
 pub record Given (n parts planes : ℕ) (ends : List Endpoints) (weights map : List ℕ) : Type 0 where

@@ -7,10 +7,10 @@ use Prim.Native.Nat.{ℕ, zero, suc, _<_}
 use native.Mathlib.Omega.{arith}
 use lib.Dec.{eqb}
 use lib.ListN.{getD}
-use Rattle.colours.specs.Colours.{nothing}
-use Rattle.colours.specs.declared.Mark.{Mark}
-use Rattle.colours.specs.declared.Mark.the-variants.{Ldr, Hdr}
-use Rattle.colours.specs.declared.Endpoints.{Endpoints}
+use Rattle.endpoints_colours.specs.Colours.{nothing}
+use Rattle.endpoints_colours.specs.declared.Mark.{Mark}
+use Rattle.endpoints_colours.specs.declared.Mark.the-variants.{Ldr, Hdr}
+use Rattle.endpoints_colours.specs.declared.Endpoints.{Endpoints}
 use Rattle.texels.specs.Kinds.{kindBy, eitherOf, anyOf}
 
 -- ---- kinds

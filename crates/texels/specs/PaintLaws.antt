@@ -8,10 +8,10 @@ use lib.ListN.{set}
 use Rattle.laws.specs.Lists.{put, put-turn, put-same}
 use Rattle.blend.specs.Blend.{crateByte, hdrBlend, halfOf, wordOf}
 use Rattle.blend.specs.BlendLaws.{hdr-byte}
-use Rattle.colours.specs.Bounds.{limit}
-use Rattle.colours.specs.declared.Mark.{Mark}
-use Rattle.colours.specs.declared.Mark.the-variants.{Ldr, Hdr}
-use Rattle.colours.specs.declared.Endpoints.{Endpoints}
+use Rattle.endpoints_colours.specs.Bounds.{limit}
+use Rattle.endpoints_colours.specs.declared.Mark.{Mark}
+use Rattle.endpoints_colours.specs.declared.Mark.the-variants.{Ldr, Hdr}
+use Rattle.endpoints_colours.specs.declared.Endpoints.{Endpoints}
 use Rattle.texels.specs.Texels.{channelBy, wordBy, halfAt}
 
 -- a channel is a byte

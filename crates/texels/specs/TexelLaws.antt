@@ -5,8 +5,8 @@ use mathlib.Core.List.{List}
 use Prim.Native.Nat.{ℕ, _*_}
 use lib.ListN.{getD}
 use Rattle.laws.specs.Lists.{put}
-use Rattle.colours.specs.Colours.{nothing}
-use Rattle.colours.specs.declared.Endpoints.{Endpoints}
+use Rattle.endpoints_colours.specs.Colours.{nothing}
+use Rattle.endpoints_colours.specs.declared.Endpoints.{Endpoints}
 use Rattle.texels.specs.Texels.{texelWord, halfAt, eights}
 use Rattle.texels.specs.Kinds.{startsOf, wordAt}
 use Rattle.texels.specs.PaintLaws.{put-halves}

@@ -6,10 +6,10 @@ use Prim.Native.Nat.{ℕ, _+_, _*_, _/_, _%_}
 use lib.Dec.{eqb}
 use lib.ListN.{getD}
 use Rattle.blend.specs.Blend.{ldrChannel, hdrChannel, wordOf}
-use Rattle.colours.specs.Colours.{nothing}
-use Rattle.colours.specs.declared.Mark.{Mark}
-use Rattle.colours.specs.declared.Mark.the-variants.{Ldr, Hdr}
-use Rattle.colours.specs.declared.Endpoints.{Endpoints}
+use Rattle.endpoints_colours.specs.Colours.{nothing}
+use Rattle.endpoints_colours.specs.declared.Mark.{Mark}
+use Rattle.endpoints_colours.specs.declared.Mark.the-variants.{Ldr, Hdr}
+use Rattle.endpoints_colours.specs.declared.Endpoints.{Endpoints}
 
 -- a channel between two endpoints, by their mark
 unfoldable pub channelBy : Mark → ℕ → ℕ → ℕ → ℕ

@@ -8,9 +8,9 @@ use lib.Dec.{eqb}
 use Rattle.laws.specs.Lists.{listOf}
 use Rattle.half.specs.Half.{hdrByte}
 use Rattle.blend.specs.Blend.{between, expand, crateByte, bent, halfOf}
-use Rattle.colours.specs.Colours.{rgba, endpoints, ldr}
-use Rattle.colours.specs.declared.Mark.the-variants.{Ldr, Hdr}
-use Rattle.colours.specs.declared.Endpoints.{Endpoints}
+use Rattle.endpoints_colours.specs.Colours.{rgba, endpoints, ldr}
+use Rattle.endpoints_colours.specs.declared.Mark.the-variants.{Ldr, Hdr}
+use Rattle.endpoints_colours.specs.declared.Endpoints.{Endpoints}
 use Rattle.texels.specs.Texels.{channelBy, wordBy, planeOf, texelWord, halfAt, eights}
 
 -- red to blue; dark to bright in high dynamic range, and the same under LDR alphas

@@ -1,0 +1,39 @@
+-- A colour, and a pair of them as endpoints with their marks.
+-- Assumes nothing.
+use Prim.Native.Nat.{ℕ}
+use Rattle.endpoints_colours.specs.declared.Mark.{Mark}
+use Rattle.endpoints_colours.specs.declared.Mark.the-variants.{Ldr}
+use Rattle.endpoints_colours.specs.declared.Endpoints.{Endpoints}
+
+pub record Colour : Type 0 where
+  pub r : ℕ
+  pub g : ℕ
+  pub b : ℕ
+  pub a : ℕ
+
+abbrev pub rgba : ℕ → ℕ → ℕ → ℕ → Colour
+rgba r g b a = record { r = r; g = g; b = b; a = a }
+
+abbrev pub each : (ℕ → ℕ) → Colour → Colour
+each f c = rgba (f (c .r)) (f (c .g)) (f (c .b)) (f (c .a))
+
+abbrev pub endpoints : Colour → Colour → Mark → Mark → Endpoints
+endpoints c d color alpha = record {
+  r0 = c .r;
+  g0 = c .g;
+  b0 = c .b;
+  a0 = c .a;
+  r1 = d .r;
+  g1 = d .g;
+  b1 = d .b;
+  a1 = d .a;
+  color = color;
+  alpha = alpha;
+}
+
+abbrev pub ldr : Colour → Colour → Endpoints
+ldr c d = endpoints c d Ldr Ldr
+
+-- where there is no partition
+abbrev pub nothing : Endpoints
+nothing = ldr (rgba 0 0 0 0) (rgba 0 0 0 0)

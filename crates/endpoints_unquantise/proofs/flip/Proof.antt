@@ -1,0 +1,17 @@
+-- Both ways out are the definition's cases.
+use borrow.Author.Tests.{eq-eqb, ne-eqb}
+use borrow.Author.Needs.{needs}
+use Rattle.endpoints_unquantise.proofs.flip.Statement.{statement}
+use Rattle.endpoints_unquantise.proofs.flip.Tie as tie
+
+sub-result : tie.Need-sub-result
+sub-result c = search needs
+
+returns : tie.Need-returns
+returns c = rw (eq-eqb _ _ (c .if1 .taken))
+
+returns-2 : tie.Need-returns-2
+returns-2 c = rw (ne-eqb _ _ (c .if1 .left))
+
+pub flip-spec : {M : Type 1} → statement M
+flip-spec = tie.close (tie.spec sub-result returns returns-2)

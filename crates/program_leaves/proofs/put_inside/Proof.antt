@@ -1,0 +1,29 @@
+-- `program_leaves::put_inside` meets its contract: the tests place the grid inside the footprint. Assumes nothing.
+use native.Mathlib.Omega.{arith}
+use borrow.Author.Needs.{needs}
+use Rattle.program_leaves.proofs.put_inside.Statement.{statement}
+use Rattle.program_leaves.proofs.put_inside.Tie as tie
+
+returns : tie.Need-returns
+returns c = search needs
+
+returns-2 : tie.Need-returns-2
+returns-2 c = search needs
+
+returns-3 : tie.Need-returns-3
+returns-3 c = search needs
+
+put-planes-requires : tie.Need-put-planes-requires
+put-planes-requires c κs =
+    let p = c .before .before .before .before .before .before .before .before .before .pre in
+    (record { side = p .0 .0; side-high = p .0 .1; wide = (omega arith, omega arith); high = (omega arith, omega arith); small = (omega arith, omega arith) }, p .1 .1)
+
+returns-4 : tie.Need-returns-4
+returns-4 c = search needs
+
+returns-5 : tie.Need-returns-5
+returns-5 c = search needs
+
+pub put-inside-spec : {M : Type 1} → statement M
+put-inside-spec =
+    tie.close (tie.spec returns returns-2 returns-3 put-planes-requires returns-4 returns-5)

@@ -1,0 +1,55 @@
+-- The counts are the definition's, of the record's own values.
+use mathlib.Core.Path.{_∙_}
+use borrow.Author.Needs.{needs}
+use Rattle.program_replay.proofs.count_record.Statement.{statement}
+use Rattle.program_replay.proofs.count_record.Tie as tie
+
+element-copy-out-wide : tie.Need-element-copy-out-wide
+element-copy-out-wide c = search needs
+
+wide-requires : tie.Need-wide-requires
+wide-requires c κs = search needs
+
+mul-added : tie.Need-mul-added
+mul-added c = search needs
+
+element-copy-out-added : tie.Need-element-copy-out-added
+element-copy-out-added c = search needs
+
+added-requires : tie.Need-added-requires
+added-requires c κs = search needs
+
+mul-answers : tie.Need-mul-answers
+mul-answers c = search needs
+
+element-write-answers : tie.Need-element-write-answers
+element-write-answers c = search needs
+
+texels-requires : tie.Need-texels-requires
+texels-requires c κs = search needs
+
+differs-requires : tie.Need-differs-requires
+differs-requires c κs = search needs
+
+counted-requires : tie.Need-counted-requires
+counted-requires c κs = search needs
+
+returns : tie.Need-returns
+returns c =
+    (c .counted .ensures ∙ rw (c .before .before .texels .ensures, c .before .differs .ensures), rw (c .before .before .before .added .ensures, c .before .before .before .before .before .wide .ensures .0))
+
+pub count-record-spec : {M : Type 1} → statement M
+count-record-spec =
+    tie.close
+    (tie.spec
+    element-copy-out-wide
+    wide-requires
+    mul-added
+    element-copy-out-added
+    added-requires
+    mul-answers
+    element-write-answers
+    texels-requires
+    differs-requires
+    counted-requires
+    returns)

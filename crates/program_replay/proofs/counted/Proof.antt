@@ -1,0 +1,26 @@
+-- The counts are the definition's.
+use Rattle.program_replay.specs.Replay.{countedIn}
+use borrow.Author.Needs.{needs}
+use Rattle.program_replay.proofs.counted.Statement.{statement}
+use Rattle.program_replay.proofs.counted.Tie as tie
+
+added-requires : tie.Need-added-requires
+added-requires c κs = search needs
+
+added-requires-2 : tie.Need-added-requires-2
+added-requires-2 c κs = search needs
+
+one-if-requires : tie.Need-one-if-requires
+one-if-requires c κs = search needs
+
+added-requires-3 : tie.Need-added-requires-3
+added-requires-3 c κs = search needs
+
+returns : tie.Need-returns
+unfolding countedIn
+returns c =
+    rw (c .added3 .ensures, c .before .one-if .ensures .0, c .before .before .added2 .ensures, c .before .before .before .added .ensures)
+
+pub counted-spec : {M : Type 1} → statement M
+counted-spec =
+    tie.close (tie.spec added-requires added-requires-2 one-if-requires added-requires-3 returns)

@@ -1,0 +1,57 @@
+// Counts, and a line of text that is laid out piece by piece: bytes, and numbers in decimal.
+ghost use mathlib.Core.Path.{_≡_};
+ghost use mathlib.Core.Bool.{cond};
+ghost use Prim.Native.Nat.{_+_, _≤_};
+ghost use lib.ListN.{length};
+ghost use Rattle.program_text.specs.Counts.{more};
+ghost use Rattle.program_text.specs.Text.{decimal, countLine, Placed};
+
+// A count with n more. It would stay at the largest number, which no run reaches.
+pub fn added(count: usize, n: usize) -> usize
+    ensures { λ r. ⌜ r ≡ more count n ⌝ }
+{
+    if usize::MAX - n < count {
+        return usize::MAX;
+    }
+    count + n
+}
+
+// What a test adds to a count of the tests that hold.
+pub fn one_if(holds: bool) -> usize
+    ensures { λ r. ⌜ (r ≡ cond holds 1 0) × (r ≤ 1) ⌝ }
+{
+    if holds { 1 } else { 0 }
+}
+
+// Puts a text into the line at a place, and gives the place after it.
+pub fn put_text(line: &mut [u8], at: usize, text: &[u8]) -> usize
+    requires { ⌜ at + length (now text) ≤ length (now line) ⌝ }
+    ensures { λ r. ⌜ Placed (now (line .entry)) at (now (text .entry)) (now (line .exit)) r ⌝ }
+{
+    let mut i = 0;
+    while i < text.len() {
+        line[at + i] = text[i];
+        i += 1;
+    }
+    at + i
+}
+
+// Puts a number's decimal digits into the line at a place, and gives the place after them.
+pub fn put_number(line: &mut [u8], at: usize, n: u64) -> usize
+    requires { ⌜ at + 20 ≤ length (now line) ⌝ }
+    ensures { λ r. ⌜ Placed (now (line .entry)) at (decimal n) (now (line .exit)) r × (r ≤ at + 20) ⌝ }
+{
+    let mut digits = [0u8; 20];
+    let count = io::decimal(n, &mut digits);
+    put_text(line, at, &digits[..count])
+}
+
+// Lays out a line of a label and a count, and gives its length.
+pub fn lay_out_count(line: &mut [u8], label: &[u8], count: usize) -> usize
+    requires { ⌜ length (now label) + 21 ≤ length (now line) ⌝ }
+    ensures { λ r. ⌜ Placed (now (line .entry)) 0 (countLine (now (label .entry)) count) (now (line .exit)) r × (r ≤ length (now (line .entry))) ⌝ }
+{
+    let start = put_text(line, 0, label);
+    let after = put_number(line, start, count as u64);
+    put_text(line, after, b"\n")
+}

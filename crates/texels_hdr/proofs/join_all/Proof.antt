@@ -1,0 +1,109 @@
+-- The halves before 2 * i are those of the texels before i.
+use Rattle.texels.specs.PaintLaws.{byte-stores}
+use mathlib.Core.Path.{_≡_, refl}
+use Prim.Native.Nat.{_*_, _-_, _≤_, zero-le}
+use Rattle.laws.specs.Lists.{put, put-none}
+use Rattle.texels.specs.Texels.{halfAt, eights}
+use Rattle.texels_hdr.specs.Channels.{wordAmong}
+use native.Mathlib.Omega.{arith}
+use Rattle.texels_hdr.proofs.join_all.Statement.{statement}
+use Rattle.texels_hdr.proofs.join_all.Tie as tie
+
+abbrev Inv-loop : tie.InvT-loop
+Inv-loop out₀ n r g b a m i₀ out i =
+    (i ≤ eights n) × (out ≡ put (halfAt (wordAmong r g b a)) 0 (2 * i) out₀)
+
+abbrev μ-loop : tie.MeasureT-loop
+μ-loop out₀ n r g b a m i₀ out i = eights n - i
+
+add-m : tie.Need-add-m Inv-loop μ-loop
+add-m c = omega arith
+
+mul-m : tie.Need-mul-m Inv-loop μ-loop
+mul-m c = omega arith
+
+loop-holds : tie.Need-loop-holds Inv-loop μ-loop
+loop-holds c = (zero-le, put-none _ 0 _)
+
+element-copy-out-joined : tie.Need-element-copy-out-joined Inv-loop μ-loop
+element-copy-out-joined c = omega arith
+
+element-copy-out-joined-2 : tie.Need-element-copy-out-joined-2 Inv-loop μ-loop
+element-copy-out-joined-2 c = omega arith
+
+joined-requires : tie.Need-joined-requires Inv-loop μ-loop
+joined-requires c κs = omega arith
+
+mul-out : tie.Need-mul-out Inv-loop μ-loop
+mul-out c = omega arith
+
+mul-out-2 : tie.Need-mul-out-2 Inv-loop μ-loop
+mul-out-2 c = omega arith
+
+element-write-out : tie.Need-element-write-out Inv-loop μ-loop
+element-write-out c = omega arith
+
+element-copy-out-joined-3 : tie.Need-element-copy-out-joined-3 Inv-loop μ-loop
+element-copy-out-joined-3 c = omega arith
+
+element-copy-out-joined-4 : tie.Need-element-copy-out-joined-4 Inv-loop μ-loop
+element-copy-out-joined-4 c = omega arith
+
+joined-requires-2 : tie.Need-joined-requires-2 Inv-loop μ-loop
+joined-requires-2 c κs = omega arith
+
+mul-out-3 : tie.Need-mul-out-3 Inv-loop μ-loop
+mul-out-3 c = omega arith
+
+add-out : tie.Need-add-out Inv-loop μ-loop
+add-out c = omega arith
+
+mul-out-4 : tie.Need-mul-out-4 Inv-loop μ-loop
+mul-out-4 c = omega arith
+
+element-write-out-2 : tie.Need-element-write-out-2 Inv-loop μ-loop
+element-write-out-2 c = omega arith
+
+add-i : tie.Need-add-i Inv-loop μ-loop
+add-i c = omega arith
+
+loop-less : tie.Need-loop-less Inv-loop μ-loop
+loop-less c = omega arith
+
+loop-again : tie.Need-loop-again Inv-loop μ-loop
+loop-again c =
+    let low = c .before .before .before .joined .ensures in
+    let high = c .joined2 .ensures in
+    (omega arith, byte-stores _ _ _ _ _ _ _ _ _ _ (c .before .before .before .before .before .before .before .loop .inv .1) refl (omega arith) (omega arith) (low .0) (high .0))
+
+returns : tie.Need-returns Inv-loop μ-loop
+returns c =
+    let e : c .before .loop .i ≡ eights (c .before .before .args .n) = omega arith in
+    rw e at (c .before .loop .inv .1)
+
+pub join-all-spec : {M : Type 1} → statement M
+join-all-spec =
+    tie.close
+    (tie.spec
+    Inv-loop
+    μ-loop
+    add-m
+    mul-m
+    loop-holds
+    element-copy-out-joined
+    element-copy-out-joined-2
+    joined-requires
+    mul-out
+    mul-out-2
+    element-write-out
+    element-copy-out-joined-3
+    element-copy-out-joined-4
+    joined-requires-2
+    mul-out-3
+    add-out
+    mul-out-4
+    element-write-out-2
+    add-i
+    loop-less
+    loop-again
+    returns)

@@ -1,0 +1,112 @@
+-- The laws of HDR texels, whose channels are painted one after the other.
+-- Assumes nothing.
+use mathlib.Core.Path.{_≡_, refl, sym, ap, _∙_}
+use mathlib.Core.List.{List}
+use Prim.Native.Nat.{ℕ, zero, suc, _+_, _-_, _*_, _/_, _≤_, _<_}
+use native.Mathlib.Nat.{mul-add}
+use native.Mathlib.Omega.{arith}
+use lib.ListN.{getD, replicate}
+use borrow.Author.Tests.{lt-ltb}
+use Rattle.laws.specs.Lists.{put, put-same, zeros-at}
+use Rattle.half.specs.Half.{hdrByteOf}
+use Rattle.blend.specs.Blend.{between, halfOf, hdrChannel, wordOf}
+use Rattle.endpoints_colours.specs.Bounds.{Within, limit}
+use Rattle.endpoints_colours.specs.Colours.{nothing}
+use Rattle.endpoints_colours.specs.declared.Mark.{Mark}
+use Rattle.endpoints_colours.specs.declared.Mark.the-variants.{Ldr, Hdr}
+use Rattle.endpoints_colours.specs.declared.Endpoints.{Endpoints}
+use Rattle.texels.specs.Texels.{channelBy, wordBy, texelWord, halfAt, eights}
+use Rattle.texels.specs.Given.{Given}
+use Rattle.texels.specs.Kinds.{startsOf, AllOf}
+use Rattle.texels.specs.PaintLaws.{put-halves}
+use Rattle.texels.specs.KindLaws.{both-hdr, any-field, any-entry}
+use Rattle.texels.specs.TexelLaws.{by-starts}
+use Rattle.texels.specs.declared.Starts.{Starts}
+use Rattle.texels_hdr.specs.Channels.{Wide, hdrAt, fieldOf, numbers, wordAmong}
+use Rattle.texels_hdr.specs.declared.Numbers.{Numbers}
+
+-- ---- the numbers of one channel
+module _ (φ : Endpoints → ℕ) (ends : List Endpoints) where
+  field-at : (p : ℕ) → p < 4 → getD (fieldOf φ ends) p 0 ≡ φ (getD ends p nothing)
+  field-at p h = any-field φ p _ _ _ _ h refl ∙ ap φ (any-entry ends nothing p h)
+
+  field-wide : ((p : ℕ) → φ (getD ends p nothing) < 4096) → Wide (fieldOf φ ends)
+  field-wide h zero = h 0
+  field-wide h (suc zero) = h 1
+  field-wide h (suc (suc zero)) = h 2
+  field-wide h (suc (suc (suc zero))) = h 3
+  field-wide h (suc (suc (suc (suc p)))) = omega arith
+
+wide-of : (m : Mark) {v : ℕ} → v < limit m → v < 4096
+wide-of Ldr h = omega arith
+wide-of Hdr h = h
+
+-- numbers within their limits have 12 bits
+pub numbers-wide : (φ ψ : Endpoints → ℕ) (mark : Endpoints → Mark) (ends : List Endpoints) {v : Numbers} → v ≡ numbers φ ψ ends
+    → ((e : Endpoints) → Within e → (φ e < limit (mark e)) × (ψ e < limit (mark e))) → ((p : ℕ) → Within (getD ends p nothing)) → Wide (v .first) × Wide (v .second)
+numbers-wide φ ψ mark ends e limits within =
+    rw e (
+      field-wide φ ends (λ p. wide-of (mark (getD ends p nothing)) (limits (getD ends p nothing) (within p) .0)),
+      field-wide ψ ends (λ p. wide-of (mark (getD ends p nothing)) (limits (getD ends p nothing) (within p) .1)),
+    )
+
+-- ---- one partition
+pub hdr-first : (parts n x : ℕ) (a b weights map out s : List ℕ) → parts ≡ 1 → ((i : ℕ) → getD map i 0 < parts)
+    → out ≡ put (λ (i : ℕ). hdrChannel (getD a 0 0) (getD b 0 0) (getD weights (x + i) 0)) 0 (eights n) s → out ≡ put (hdrAt a b weights map x) 0 (eights n) s
+hdr-first parts n x a b weights map out s e mapped h =
+    h ∙ put-same _ _ 0 (eights n) s (λ i l m. let z : getD map i 0 ≡ 0 = omega (arith, mapped i) in rw z)
+
+-- equal endpoints need no weight
+flat : (v w : ℕ) → w ≤ 64 → hdrChannel v v 0 ≡ hdrChannel v v w
+unfolding between
+flat v w h =
+    let e : v * 16 * (64 - w) + v * 16 * w ≡ v * 16 * (64 - w + w) = sym (mul-add (v * 16) (64 - w) w) in
+    let f : v * 16 * (64 - w + w) ≡ v * 16 * 64 = ap (λ (z : ℕ). v * 16 * z) (omega arith) in
+    ap (λ (z : ℕ). hdrByteOf (halfOf ((z + 32) / 64))) (omega (arith, e, f))
+
+pub hdr-flat-first : (parts n x : ℕ) (a b weights map out s : List ℕ) → parts ≡ 1 → ((i : ℕ) → getD map i 0 < parts) → ((i : ℕ) → getD weights i 0 ≤ 64)
+    → getD a 0 0 ≡ getD b 0 0 → out ≡ put (λ (i : ℕ). hdrChannel (getD a 0 0) (getD a 0 0) 0) 0 (eights n) s → out ≡ put (hdrAt a b weights map x) 0 (eights n) s
+hdr-flat-first parts n x a b weights map out s e mapped low same h =
+    h
+    ∙ put-same _ _ 0 (eights n) s
+    (λ i l m.
+    let z : getD map i 0 ≡ 0 = omega (arith, mapped i) in
+    flat (getD a 0 0) (getD weights (x + i) 0) (low (x + i)) ∙ rw (z, sym same))
+
+-- ---- a texel
+hdr-word : (e : Endpoints) (r g b a : ℕ) → e .color ≡ Hdr → e .alpha ≡ Hdr
+    → wordOf (hdrChannel (e .r0) (e .r1) r) (hdrChannel (e .g0) (e .g1) g) (hdrChannel (e .b0) (e .b1) b) (hdrChannel (e .a0) (e .a1) a) ≡ wordBy e r g b a
+unfolding wordBy channelBy
+hdr-word e r g b a p q = rw (p, q)
+
+module _ (n parts planes channel : ℕ) (ends : List Endpoints) (weights map : List ℕ) (given : Given n parts planes ends weights map) where
+  -- a channel of texel i, of those of all
+  channel-at : (φ ψ : Endpoints → ℕ) (v : Numbers) (x i : ℕ) (s : List ℕ) → v ≡ numbers φ ψ ends → s ≡ put (hdrAt (v .first) (v .second) weights map x) 0 (eights n) (replicate 144 0) → i < eights n
+      → getD s i 0 ≡ hdrChannel (φ (getD ends (getD map i 0) nothing)) (ψ (getD ends (getD map i 0) nothing)) (getD weights (x + i) 0)
+  channel-at φ ψ v x i s e h l =
+      let p : getD map i 0 < 4 = omega (arith, given .mapped i, given .four) in
+      let m : eights n ≤ 144 = omega (arith, given .few) in
+      let f = hdrAt (fieldOf φ ends) (fieldOf ψ ends) weights map x in
+      let t : s ≡ put f 0 (eights n) (replicate 144 0) = rw e at h in
+      rw (t, zeros-at f (eights n) 144 i m, lt-ltb i (eights n) l, field-at φ ends (getD map i 0) p, field-at ψ ends (getD map i 0) p)
+
+  pub as-hdr : (k : Starts) (vr vg vb va : Numbers) (r g b a out s : List ℕ) → AllOf 1 parts ends → k ≡ startsOf planes channel
+      → vr ≡ numbers (λ (e : Endpoints). e .r0) (λ (e : Endpoints). e .r1) ends → vg ≡ numbers (λ (e : Endpoints). e .g0) (λ (e : Endpoints). e .g1) ends
+      → vb ≡ numbers (λ (e : Endpoints). e .b0) (λ (e : Endpoints). e .b1) ends → va ≡ numbers (λ (e : Endpoints). e .a0) (λ (e : Endpoints). e .a1) ends
+      → r ≡ put (hdrAt (vr .first) (vr .second) weights map (k .r)) 0 (eights n) (replicate 144 0)
+      → g ≡ put (hdrAt (vg .first) (vg .second) weights map (k .g)) 0 (eights n) (replicate 144 0)
+      → b ≡ put (hdrAt (vb .first) (vb .second) weights map (k .b)) 0 (eights n) (replicate 144 0)
+      → a ≡ put (hdrAt (va .first) (va .second) weights map (k .a)) 0 (eights n) (replicate 144 0)
+      → out ≡ put (halfAt (wordAmong r g b a)) 0 (2 * eights n) s → out ≡ put (halfAt (texelWord ends weights map planes channel)) 0 (2 * eights n) s
+  as-hdr k vr vg vb va r g b a out s all ek er eg eb ea pr pg pb pa h = h ∙ put-halves _ _ (eights n) s same
+    where
+      same : (i : ℕ) → i < eights n → wordAmong r g b a i ≡ texelWord ends weights map planes channel i
+      same i l =
+          let e = getD ends (getD map i 0) nothing in
+          let m = both-hdr (e .color) (e .alpha) (all (getD map i 0) (given .mapped i)) in
+          rw (
+            channel-at (λ (e : Endpoints). e .r0) (λ (e : Endpoints). e .r1) vr (k .r) i r er pr l,
+            channel-at (λ (e : Endpoints). e .g0) (λ (e : Endpoints). e .g1) vg (k .g) i g eg pg l,
+            channel-at (λ (e : Endpoints). e .b0) (λ (e : Endpoints). e .b1) vb (k .b) i b eb pb l,
+            channel-at (λ (e : Endpoints). e .a0) (λ (e : Endpoints). e .a1) va (k .a) i a ea pa l,
+          ) (hdr-word e _ _ _ _ (m .0) (m .1) ∙ by-starts planes channel ends weights map k ek i)

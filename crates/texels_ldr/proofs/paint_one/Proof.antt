@@ -1,0 +1,101 @@
+-- The halves before 2 * i are those of the texels before i.
+use mathlib.Core.Path.{_≡_, refl}
+use Prim.Native.Nat.{_*_, _-_, _≤_, zero-le}
+use Rattle.laws.specs.Lists.{put, put-none}
+use Rattle.texels.specs.Texels.{halfAt, eights}
+use Rattle.texels_ldr.specs.Plain.{wordOne}
+use Rattle.texels_ldr.specs.LdrLaws.{ldr-stores}
+use native.Mathlib.Omega.{arith}
+use Rattle.texels_ldr.proofs.paint_one.Statement.{statement}
+use Rattle.texels_ldr.proofs.paint_one.Tie as tie
+
+abbrev Inv-loop : tie.InvT-loop
+Inv-loop out₀ n w e m i₀ out i =
+    (i ≤ eights n) × (out ≡ put (halfAt (wordOne e w)) 0 (2 * i) out₀)
+
+abbrev μ-loop : tie.MeasureT-loop
+μ-loop out₀ n w e m i₀ out i = eights n - i
+
+add-m : tie.Need-add-m Inv-loop μ-loop
+add-m c = omega arith
+
+mul-m : tie.Need-mul-m Inv-loop μ-loop
+mul-m c = omega arith
+
+loop-holds : tie.Need-loop-holds Inv-loop μ-loop
+loop-holds c = (zero-le, put-none _ 0 _)
+
+element-copy-out-wide : tie.Need-element-copy-out-wide Inv-loop μ-loop
+element-copy-out-wide c = omega arith
+
+wide-requires : tie.Need-wide-requires Inv-loop μ-loop
+wide-requires c κs = omega arith
+
+pair-requires : tie.Need-pair-requires Inv-loop μ-loop
+pair-requires c κs = omega (arith, c .before .before .before .before .pre .1 (c .before .before .before .loop .i))
+
+mul-out : tie.Need-mul-out Inv-loop μ-loop
+mul-out c = omega arith
+
+mul-out-2 : tie.Need-mul-out-2 Inv-loop μ-loop
+mul-out-2 c = omega arith
+
+element-write-out : tie.Need-element-write-out Inv-loop μ-loop
+element-write-out c = omega arith
+
+pair-requires-2 : tie.Need-pair-requires-2 Inv-loop μ-loop
+pair-requires-2 c κs = omega (arith, c .before .before .before .before .before .pre .1 (c .before .before .before .before .loop .i))
+
+mul-out-3 : tie.Need-mul-out-3 Inv-loop μ-loop
+mul-out-3 c = omega arith
+
+add-out : tie.Need-add-out Inv-loop μ-loop
+add-out c = omega arith
+
+mul-out-4 : tie.Need-mul-out-4 Inv-loop μ-loop
+mul-out-4 c = omega arith
+
+element-write-out-2 : tie.Need-element-write-out-2 Inv-loop μ-loop
+element-write-out-2 c = omega arith
+
+add-i : tie.Need-add-i Inv-loop μ-loop
+add-i c = omega arith
+
+loop-less : tie.Need-loop-less Inv-loop μ-loop
+loop-less c = omega arith
+
+loop-again : tie.Need-loop-again Inv-loop μ-loop
+loop-again c =
+    let e = c .before .before .wide .ensures .0 in
+    let s = c .before .before .before .before .before .before in
+    (omega arith, ldr-stores _ (s .args .e) (s .args .e) _ _ _ (s .pre .0 .1) (c .before .before .before .before .before .loop .inv .1) refl refl e e e e (c .before .pair .ensures) (c .pair2 .ensures))
+
+returns : tie.Need-returns Inv-loop μ-loop
+returns c =
+    let e : c .before .loop .i ≡ eights (c .before .before .args .n) = omega arith in
+    rw e at (c .before .loop .inv .1)
+
+pub paint-one-spec : {M : Type 1} → statement M
+paint-one-spec =
+    tie.close
+    (tie.spec
+    Inv-loop
+    μ-loop
+    add-m
+    mul-m
+    loop-holds
+    element-copy-out-wide
+    wide-requires
+    pair-requires
+    mul-out
+    mul-out-2
+    element-write-out
+    pair-requires-2
+    mul-out-3
+    add-out
+    mul-out-4
+    element-write-out-2
+    add-i
+    loop-less
+    loop-again
+    returns)

@@ -1,0 +1,97 @@
+-- The halves before 2 * i are those of the texels before i.
+use mathlib.Core.Path.{_≡_, refl}
+use Prim.Native.Nat.{_*_, _-_, _≤_, zero-le}
+use Rattle.laws.specs.Lists.{put, put-none}
+use Rattle.texels.specs.Texels.{halfAt, eights}
+use Rattle.texels.specs.Kinds.{wordAt}
+use Rattle.texels_ldr.specs.LdrLaws.{ldr-stores}
+use native.Mathlib.Omega.{arith}
+use Rattle.texels_ldr.proofs.paint_planes.Statement.{statement}
+use Rattle.texels_ldr.proofs.paint_planes.Tie as tie
+
+abbrev Inv-loop : tie.InvT-loop
+Inv-loop out₀ n w k e m i₀ out i =
+    (i ≤ eights n) × (out ≡ put (halfAt (wordAt e w k)) 0 (2 * i) out₀)
+
+abbrev μ-loop : tie.MeasureT-loop
+μ-loop out₀ n w k e m i₀ out i = eights n - i
+
+add-m : tie.Need-add-m Inv-loop μ-loop
+add-m c = omega arith
+
+mul-m : tie.Need-mul-m Inv-loop μ-loop
+mul-m c = omega arith
+
+loop-holds : tie.Need-loop-holds Inv-loop μ-loop
+loop-holds c = (zero-le, put-none _ 0 _)
+
+weights-at-requires : tie.Need-weights-at-requires Inv-loop μ-loop
+weights-at-requires c κs = let s = c .before .before in ((s .pre .0 .1, omega arith), s .pre .1)
+
+pair-requires : tie.Need-pair-requires Inv-loop μ-loop
+pair-requires c κs = omega arith
+
+mul-out : tie.Need-mul-out Inv-loop μ-loop
+mul-out c = omega arith
+
+mul-out-2 : tie.Need-mul-out-2 Inv-loop μ-loop
+mul-out-2 c = omega arith
+
+element-write-out : tie.Need-element-write-out Inv-loop μ-loop
+element-write-out c = omega arith
+
+pair-requires-2 : tie.Need-pair-requires-2 Inv-loop μ-loop
+pair-requires-2 c κs = omega arith
+
+mul-out-3 : tie.Need-mul-out-3 Inv-loop μ-loop
+mul-out-3 c = omega arith
+
+add-out : tie.Need-add-out Inv-loop μ-loop
+add-out c = omega arith
+
+mul-out-4 : tie.Need-mul-out-4 Inv-loop μ-loop
+mul-out-4 c = omega arith
+
+element-write-out-2 : tie.Need-element-write-out-2 Inv-loop μ-loop
+element-write-out-2 c = omega arith
+
+add-i : tie.Need-add-i Inv-loop μ-loop
+add-i c = omega arith
+
+loop-less : tie.Need-loop-less Inv-loop μ-loop
+loop-less c = omega arith
+
+loop-again : tie.Need-loop-again Inv-loop μ-loop
+loop-again c =
+    let s = c .before .before .before .before .before in
+    let v = c .before .before .weights-at .ensures in
+    (omega arith, ldr-stores _ (s .args .e) (s .args .e) _ _ _ (s .pre .0 .2) (c .before .before .before .before .loop .inv .1) refl refl (v .r) (v .g) (v .b) (v .a) (c .before .pair .ensures) (c .pair2 .ensures))
+
+returns : tie.Need-returns Inv-loop μ-loop
+returns c =
+    let e : c .before .loop .i ≡ eights (c .before .before .args .n) = omega arith in
+    rw e at (c .before .loop .inv .1)
+
+pub paint-planes-spec : {M : Type 1} → statement M
+paint-planes-spec =
+    tie.close
+    (tie.spec
+    Inv-loop
+    μ-loop
+    add-m
+    mul-m
+    loop-holds
+    weights-at-requires
+    pair-requires
+    mul-out
+    mul-out-2
+    element-write-out
+    pair-requires-2
+    mul-out-3
+    add-out
+    mul-out-4
+    element-write-out-2
+    add-i
+    loop-less
+    loop-again
+    returns)

@@ -1,0 +1,197 @@
+// LDR texels, eight at once, by the number of partitions and planes.
+ghost use mathlib.Core.Path.{_≡_};
+ghost use Prim.Native.Nat.{ℕ, _*_, _≤_, _<_};
+ghost use lib.ListN.{getD};
+ghost use Rattle.laws.specs.Lists.{put};
+ghost use Rattle.endpoints_colours.specs.Colours.{nothing};
+ghost use Rattle.texels.specs.Texels.{texelWord, halfAt, eights};
+ghost use Rattle.texels.specs.Given.{Given};
+ghost use Rattle.texels.specs.Kinds.{Ahead, wordAt, AllOf, eitherOf, anyOf};
+ghost use Rattle.texels_ldr.specs.Plain.{WeightsAt, wordOne, Plain, ldrPair};
+use endpoints_colours::Endpoints;
+use endpoints_colours::Mark;
+use texels::Starts;
+use texels::any;
+use texels::either;
+use texels::starts_of;
+
+// The weights of a texel's channels.
+pub struct Weights {
+    pub r: u16,
+    pub g: u16,
+    pub b: u16,
+    pub a: u16,
+}
+
+// A cast in a function of its own: its caller need not show that the number fits.
+fn wide(x: u8) -> u16
+    ensures { λ r. ⌜ (r ≡ x) × (r < 256) ⌝ }
+{
+    x as u16
+}
+
+fn weights_at(w: &[u8; 288], k: Starts, i: usize) -> Weights
+    requires { ⌜ Ahead k × (i < 144) ⌝ ∗ ⌜ ((i : ℕ) → getD (now w) i 0 ≤ 64) ⌝ }
+    ensures { λ v. ⌜ WeightsAt (now (w .entry)) k i v ⌝ }
+{
+    Weights {
+        r: wide(w[k.r + i]),
+        g: wide(w[k.g + i]),
+        b: wide(w[k.b + i]),
+        a: wide(w[k.a + i]),
+    }
+}
+
+// Half a word: two LDR channels.
+fn pair(x0: u16, x1: u16, y0: u16, y1: u16, v: u16, w: u16) -> u16
+    requires { ⌜ (x0 ≤ 255) × (x1 ≤ 255) × (y0 ≤ 255) × (y1 ≤ 255) × (v ≤ 64) × (w ≤ 64) ⌝ }
+    ensures { λ r. ⌜ r ≡ ldrPair x0 x1 y0 y1 v w ⌝ }
+{
+    blend::select_color_byte(x0, x1, v) + 256 * blend::select_color_byte(y0, y1, w)
+}
+
+// LDR texels of one partition and one plane.
+fn paint_one(out: &mut [u16; 288], n: usize, w: &[u8; 288], e: Endpoints)
+    requires { ⌜ (n ≤ 144) × Plain e ⌝ ∗ ⌜ ((i : ℕ) → getD (now w) i 0 ≤ 64) ⌝ }
+    ensures { λ _. ⌜ now (out .exit) ≡ put (halfAt (wordOne e (now (w .entry)))) 0 (2 * eights n) (now (out .entry)) ⌝ }
+{
+    let m = (n + 7) / 8 * 8;
+    let mut i = 0;
+    while i < m {
+        let x = wide(w[i]);
+        out[2 * i] = pair(e.b0, e.b1, e.g0, e.g1, x, x);
+        out[2 * i + 1] = pair(e.r0, e.r1, e.a0, e.a1, x, x);
+        i += 1;
+    }
+}
+
+// The same where each channel has the weights of its plane.
+fn paint_planes(out: &mut [u16; 288], n: usize, w: &[u8; 288], k: Starts, e: Endpoints)
+    requires { ⌜ (n ≤ 144) × Ahead k × Plain e ⌝ ∗ ⌜ ((i : ℕ) → getD (now w) i 0 ≤ 64) ⌝ }
+    ensures { λ _. ⌜ now (out .exit) ≡ put (halfAt (wordAt e (now (w .entry)) k)) 0 (2 * eights n) (now (out .entry)) ⌝ }
+{
+    let m = (n + 7) / 8 * 8;
+    let mut i = 0;
+    while i < m {
+        let v = weights_at(w, k, i);
+        out[2 * i] = pair(e.b0, e.b1, e.g0, e.g1, v.b, v.g);
+        out[2 * i + 1] = pair(e.r0, e.r1, e.a0, e.a1, v.r, v.a);
+        i += 1;
+    }
+}
+
+// Of two partitions' LDR endpoints, those of p.
+fn either_of(p: u8, a: Endpoints, b: Endpoints) -> Endpoints
+    requires { ⌜ Plain (eitherOf p a b) ⌝ }
+    ensures { λ r. ⌜ r ≡ eitherOf p a b ⌝ }
+{
+    Endpoints {
+        r0: either(p, a.r0, b.r0),
+        g0: either(p, a.g0, b.g0),
+        b0: either(p, a.b0, b.b0),
+        a0: either(p, a.a0, b.a0),
+        r1: either(p, a.r1, b.r1),
+        g1: either(p, a.g1, b.g1),
+        b1: either(p, a.b1, b.b1),
+        a1: either(p, a.a1, b.a1),
+        color: Mark::Ldr,
+        alpha: Mark::Ldr,
+    }
+}
+
+// LDR texels of two partitions and one plane.
+fn paint_two(
+    out: &mut [u16; 288],
+    n: usize,
+    w: &[u8; 288],
+    map: &[u8; 144],
+    e: Endpoints,
+    f: Endpoints,
+)
+    requires { ⌜ (n ≤ 144) × Plain e × Plain f ⌝ ∗ ⌜ ((i : ℕ) → getD (now w) i 0 ≤ 64) ⌝ }
+    ensures { λ _. ⌜ now (out .exit) ≡ put (halfAt (λ (i : ℕ). wordOne (eitherOf (getD (now (map .entry)) i 0) e f) (now (w .entry)) i)) 0 (2 * eights n) (now (out .entry)) ⌝ }
+{
+    let m = (n + 7) / 8 * 8;
+    let mut i = 0;
+    while i < m {
+        let v = wide(w[i]);
+        let x = either_of(map[i], e, f);
+        out[2 * i] = pair(x.b0, x.b1, x.g0, x.g1, v, v);
+        out[2 * i + 1] = pair(x.r0, x.r1, x.a0, x.a1, v, v);
+        i += 1;
+    }
+}
+
+// Of four partitions' LDR endpoints, those of p.
+fn any_of(p: u8, a: Endpoints, b: Endpoints, c: Endpoints, d: Endpoints) -> Endpoints
+    requires { ⌜ (p < 4) × Plain (anyOf p a b c d nothing) ⌝ }
+    ensures { λ r. ⌜ r ≡ anyOf p a b c d nothing ⌝ }
+{
+    Endpoints {
+        r0: any(p, a.r0, b.r0, c.r0, d.r0),
+        g0: any(p, a.g0, b.g0, c.g0, d.g0),
+        b0: any(p, a.b0, b.b0, c.b0, d.b0),
+        a0: any(p, a.a0, b.a0, c.a0, d.a0),
+        r1: any(p, a.r1, b.r1, c.r1, d.r1),
+        g1: any(p, a.g1, b.g1, c.g1, d.g1),
+        b1: any(p, a.b1, b.b1, c.b1, d.b1),
+        a1: any(p, a.a1, b.a1, c.a1, d.a1),
+        color: Mark::Ldr,
+        alpha: Mark::Ldr,
+    }
+}
+
+// LDR texels of any partitions and planes.
+fn paint_four(
+    out: &mut [u16; 288],
+    n: usize,
+    w: &[u8; 288],
+    k: Starts,
+    map: &[u8; 144],
+    ends: [Endpoints; 4],
+)
+    requires { ⌜ (n ≤ 144) × Ahead k ⌝ ∗ ⌜ ((i : ℕ) → getD (now w) i 0 ≤ 64) ⌝ ∗ ⌜ ((i : ℕ) → getD (now map) i 0 < 4) ⌝ ∗ ⌜ ((i : ℕ) → Plain (getD ends (getD (now map) i 0) nothing)) ⌝ }
+    ensures { λ _. ⌜ now (out .exit) ≡ put (halfAt (λ (i : ℕ). wordAt (getD ends (getD (now (map .entry)) i 0) nothing) (now (w .entry)) k i)) 0 (2 * eights n) (now (out .entry)) ⌝ }
+{
+    let e0 = ends[0];
+    let e1 = ends[1];
+    let e2 = ends[2];
+    let e3 = ends[3];
+    let m = (n + 7) / 8 * 8;
+    let mut i = 0;
+    while i < m {
+        let v = weights_at(w, k, i);
+        let x = any_of(map[i], e0, e1, e2, e3);
+        out[2 * i] = pair(x.b0, x.b1, x.g0, x.g1, v.b, v.g);
+        out[2 * i + 1] = pair(x.r0, x.r1, x.a0, x.a1, v.r, v.a);
+        i += 1;
+    }
+}
+
+// LDR texels, by the fewest partitions and planes that do.
+pub fn paint_ldr<'a>(
+    out: &mut [u16; 288],
+    n: usize,
+    parts: usize,
+    planes: usize,
+    channel: usize,
+    ends: [Endpoints; 4],
+    w: &'a [u8; 288],
+    map: &'a [u8; 144],
+)
+    requires { ⌜ Given n parts planes ends (now w) (now map) ⌝ ∗ ⌜ AllOf 0 parts ends ⌝ }
+    ensures { λ _. ⌜ now (out .exit) ≡ put (halfAt (texelWord ends (now (w .entry)) (now (map .entry)) planes channel)) 0 (2 * eights n) (now (out .entry)) ⌝ }
+{
+    if parts == 1 {
+        if planes == 1 {
+            return paint_one(out, n, w, ends[0]);
+        }
+        return paint_planes(out, n, w, starts_of(planes, channel), ends[0]);
+    }
+    if parts == 2 {
+        if planes == 1 {
+            return paint_two(out, n, w, map, ends[0], ends[1]);
+        }
+    }
+    paint_four(out, n, w, starts_of(planes, channel), map, ends);
+}
