@@ -1,0 +1,3 @@
+pub mod Footprints
+pub mod ListedLaws
+pub mod Sides
