@@ -1,8 +1,10 @@
 // The words of texels in two lanes of 16 bits each, as loops paint them eight texels at a time, and whole, as they leave for an output.
 ghost use mathlib.Core.Path.{_≡_};
-ghost use Prim.Native.Nat.{_≤_};
-ghost use Rattle.footprint.specs.Footprints.{mostWeights};
-ghost use Rattle.lanes.specs.Lanes.{eights};
+ghost use Prim.Native.Nat.{ℕ, _+_, _≤_, _<_};
+ghost use lib.ListN.{length};
+ghost use Rattle.laws.specs.Lists.{putAt};
+ghost use Rattle.footprint.specs.Footprints.{mostTexels, mostWeights};
+ghost use Rattle.lanes.specs.Lanes.{eights, joinedAt};
 
 // Two lanes for each texel of the largest footprint.
 pub const LANES: usize = 288;
@@ -13,4 +15,43 @@ pub fn eights(n: usize) -> usize
     ensures { λ r. ⌜ r ≡ eights n ⌝ }
 {
     (n + 7) / 8 * 8
+}
+
+// A cast in a function of its own: its caller need not show that the number fits.
+fn long(x: u16) -> u32
+    ensures { λ r. ⌜ (r ≡ x) × (r < 65536) ⌝ }
+{
+    x as u32
+}
+
+// The word of texel i.
+pub fn word(lanes: &[u16; LANES], i: usize) -> u32
+    requires { ⌜ i < mostTexels ⌝ }
+    ensures { λ r. ⌜ r ≡ joinedAt (now (lanes .entry)) i ⌝ }
+{
+    long(lanes[2 * i]) + 0x1_0000 * long(lanes[2 * i + 1])
+}
+
+// Copies the words of texels from .. from + n to out[to .. to + n].
+pub fn copy(lanes: &[u16; LANES], from: usize, out: &mut [u32], to: usize, n: usize)
+    requires { ⌜ (from + n ≤ mostTexels) × (to + n ≤ length (now out)) ⌝ }
+    ensures { λ _. ⌜ now (out .exit) ≡ putAt (λ (i : ℕ). joinedAt (now (lanes .entry)) (from + i)) to n (now (out .entry)) ⌝ }
+{
+    let mut i = 0;
+    while i < n {
+        out[to + i] = word(lanes, from + i);
+        i += 1;
+    }
+}
+
+// Fills out[to .. to + n] with one word.
+pub fn fill(word: u32, out: &mut [u32], to: usize, n: usize)
+    requires { ⌜ to + n ≤ length (now out) ⌝ }
+    ensures { λ _. ⌜ now (out .exit) ≡ putAt (λ (i : ℕ). word) to n (now (out .entry)) ⌝ }
+{
+    let mut i = 0;
+    while i < n {
+        out[to + i] = word;
+        i += 1;
+    }
 }

@@ -297,6 +297,15 @@ putAt-turn f o i x s t h q =
 pub putAt-end : (f : ℕ → ℕ) (o i n : ℕ) (s t : List ℕ) → t ≡ putAt f o i s → i ≤ n → n ≤ i → t ≡ putAt f o n s
 putAt-end f o i n s t h l m = h ∙ ap (λ (k : ℕ). putAt f o k s) (omega arith)
 
+pub length-putAt : (f : ℕ → ℕ) (o n : ℕ) (s : List ℕ) → length (putAt f o n s) ≡ length s
+unfolding putAt
+length-putAt f o n s = length-put (λ (k : ℕ). f (k - o)) o (o + n) s
+
+-- from place 0 on
+pub putAt-first : (f : ℕ → ℕ) (n : ℕ) (s : List ℕ) → putAt f 0 n s ≡ put f 0 n s
+unfolding putAt
+putAt-first f n s = rw (zero-add n) (put-same (λ (k : ℕ). f (k - 0)) f 0 n s (λ k a b. let e : k - 0 ≡ k = omega arith in ap f e))
+
 -- a list of g's values with f's from o on: one of h's, where those agree
 pub putAt-listOf : (f g h : ℕ → ℕ) (o n m : ℕ) → ((k : ℕ) → k < m → k < o → g k ≡ h k) → ((i : ℕ) → i < n → o + i < m → f i ≡ h (o + i))
     → ((k : ℕ) → k < m → o + n ≤ k → g k ≡ h k) → putAt f o n (listOf g 0 m) ≡ listOf h 0 m

@@ -1,0 +1,15 @@
+-- The colour of a void block. v is the block's number of 128 bits.
+-- Assumes nothing.
+use mathlib.Core.Bool.{cond}
+use Prim.Native.Nat.{ℕ}
+use lib.Dec.{eqb}
+use Rattle.bits.specs.Bits.{bitsAt}
+use Rattle.half.specs.Half.{voidByteOf}
+use Rattle.blend.specs.Blend.{wordOf}
+
+-- four 16-bit numbers from bit 64 on: halves where bit 9 is set, and else the high byte of each
+unfoldable pub voidWord : ℕ → ℕ
+voidWord v =
+    cond (eqb (bitsAt v 9 1) 1)
+    (wordOf (voidByteOf (bitsAt v 64 16)) (voidByteOf (bitsAt v 80 16)) (voidByteOf (bitsAt v 96 16)) (voidByteOf (bitsAt v 112 16)))
+    (wordOf (bitsAt v 72 8) (bitsAt v 88 8) (bitsAt v 104 8) (bitsAt v 120 8))

@@ -1,0 +1,3 @@
+pub mod Painted
+pub mod Spots
+pub mod PaintedLaws

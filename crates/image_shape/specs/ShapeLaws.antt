@@ -1,0 +1,106 @@
+-- The ways out of an image's checks, and what an accepted image gives.
+-- Assumes nothing.
+use mathlib.Core.Path.{_≡_, refl, sym, _∙_}
+use mathlib.Core.Bool.{Bool, true, false, cond, not, _&&_, false≢true}
+use Prim.Native.Nat.{ℕ, _*_, _≤_, _<_}
+use native.Mathlib.Nat.{suc-ne-zero}
+use native.Mathlib.Decide.{decLt}
+use native.Mathlib.Omega.{arith}
+use lib.Dec.{eqb, ltb}
+use borrow.Author.Tests.{eq-eqb, ne-eqb, eqb-true, lt-ltb, le-ltb, le-leb, lt-leb}
+use Rattle.laws.specs.Numbers.{choice}
+use Rattle.footprint.specs.Footprints.{listed}
+use Rattle.footprint.specs.Sides.{Sides, sides-of}
+use Rattle.image_shape.specs.Shapes.{totalOf, pixelsOf, longestSide, isSide, refusalOf}
+use Rattle.image_shape.specs.declared.Shape.{Shape}
+
+-- sides that have pixels, and of which no product leaves a word
+pub record Bounded (m : Shape) : Type 0 where
+  pub width : (1 ≤ m .width) × (m .width ≤ longestSide)
+  pub height : (1 ≤ m .height) × (m .height ≤ longestSide)
+  pub sides : Sides (m .footprint)
+
+-- an accepted image, with so many bytes and so many places for words
+pub record Sized (m : Shape) (len places : ℕ) : Type 0 where
+  pub footprint : listed (m .footprint) ≡ true
+  pub width : (1 ≤ m .width) × (m .width ≤ longestSide)
+  pub height : (1 ≤ m .height) × (m .height ≤ longestSide)
+  pub bytes : len ≡ 16 * totalOf m
+  pub room : pixelsOf m ≤ places
+
+-- ---- a side
+pub side-bounds : (n : ℕ) → isSide n ≡ true → (1 ≤ n) × (n ≤ longestSide)
+side-bounds n e = go (decLt n 1) (decLt 4096 n)
+  where
+    go : Dec (n < 1) → Dec (4096 < n) → (1 ≤ n) × (n ≤ 4096)
+    go (yes p) q = absurd (false≢true (rw (lt-leb 1 n p) at e))
+    go (no p) (yes q) = absurd (false≢true (rw (le-leb 1 n (omega arith), lt-leb n 4096 q) at e))
+    go (no p) (no q) = (omega arith, omega arith)
+
+pub side-is : (n : ℕ) → (1 ≤ n) × (n ≤ longestSide) → isSide n ≡ true
+side-is n h = rw (le-leb 1 n (h .0), le-leb n 4096 (h .1))
+
+pub bounded-of : (m : Shape) → listed (m .footprint) ≡ true → isSide (m .width) ≡ true → isSide (m .height) ≡ true → Bounded m
+bounded-of m l w h = record { width = side-bounds (m .width) w; height = side-bounds (m .height) h; sides = sides-of (m .footprint) l }
+
+-- ---- the checks
+module _ (m : Shape) (len room : ℕ) where
+  pub out-21 : listed (m .footprint) ≡ false → 21 ≡ refusalOf m len room
+  unfolding refusalOf
+  out-21 l = rw l
+
+  module _ (l : listed (m .footprint) ≡ true) where
+    pub out-wide : isSide (m .width) ≡ false → 30 ≡ refusalOf m len room
+    unfolding refusalOf
+    out-wide w = rw (l, w)
+
+    pub out-high : isSide (m .width) ≡ true → isSide (m .height) ≡ false → 30 ≡ refusalOf m len room
+    unfolding refusalOf
+    out-high w h = rw (l, w, h)
+
+    pub out-31 : (t : ℕ) → isSide (m .width) ≡ true → isSide (m .height) ≡ true → t ≡ totalOf m → (len ≡ 16 * t → ⊥) → 31 ≡ refusalOf m len room
+    unfolding refusalOf
+    out-31 t w h e n = rw (l, w, h, ne-eqb len (16 * totalOf m) (rw e at n))
+
+    pub out-22 : (t : ℕ) → isSide (m .width) ≡ true → isSide (m .height) ≡ true → t ≡ totalOf m → len ≡ 16 * t → room < pixelsOf m → 22 ≡ refusalOf m len room
+    unfolding refusalOf
+    out-22 t w h e n r = rw (l, w, h, eq-eqb len (16 * totalOf m) (rw e at n), lt-ltb room (pixelsOf m) r)
+
+    pub out-0 : (t : ℕ) → isSide (m .width) ≡ true → isSide (m .height) ≡ true → t ≡ totalOf m → len ≡ 16 * t → pixelsOf m ≤ room → 0 ≡ refusalOf m len room
+    unfolding refusalOf
+    out-0 t w h e n r = rw (l, w, h, eq-eqb len (16 * totalOf m) (rw e at n), le-ltb room (pixelsOf m) r)
+
+-- no answer is larger
+pub refusal-small : (m : Shape) (len room : ℕ) → refusalOf m len room < 35
+unfolding refusalOf
+refusal-small m len room =
+    choice (not (listed (m .footprint))) 21 _ (omega arith)
+    (choice (not (isSide (m .width) && isSide (m .height))) 30 _ (omega arith)
+    (choice (not (eqb len (16 * totalOf m))) 31 _ (omega arith) (choice (ltb room (pixelsOf m)) 22 0 (omega arith) (omega arith))))
+
+-- the refusal 0 says all
+pub accepted : (m : Shape) (len room : ℕ) → refusalOf m len room ≡ 0 → Sized m len room
+unfolding refusalOf
+accepted m len room e = go (listed (m .footprint)) (isSide (m .width)) (isSide (m .height)) (eqb len (16 * totalOf m)) (decLt room (pixelsOf m)) refl refl refl refl e
+  where
+    go : (a w h t : Bool) → Dec (room < pixelsOf m) → listed (m .footprint) ≡ a → isSide (m .width) ≡ w → isSide (m .height) ≡ h → eqb len (16 * totalOf m) ≡ t
+        → _≡_ {A = ℕ} (cond (not a) 21 (cond (not (w && h)) 30 (cond (not t) 31 (cond (ltb room (pixelsOf m)) 22 0)))) 0 → Sized m len room
+    go false w h t r el ew eh et x = absurd (suc-ne-zero 20 x)
+    go true false h t r el ew eh et x = absurd (suc-ne-zero 29 x)
+    go true true false t r el ew eh et x = absurd (suc-ne-zero 29 x)
+    go true true true false r el ew eh et x = absurd (suc-ne-zero 30 x)
+    go true true true true (yes r) el ew eh et x = absurd (suc-ne-zero 21 (rw (lt-ltb room (pixelsOf m) r) at x))
+    go true true true true (no r) el ew eh et x =
+        record { footprint = el; width = side-bounds (m .width) ew; height = side-bounds (m .height) eh; bytes = eqb-true len (16 * totalOf m) et; room = omega arith }
+
+-- and an image that is sized is accepted
+pub sized-accepted : (m : Shape) (len room : ℕ) → Sized m len room → refusalOf m len room ≡ 0
+sized-accepted m len room s =
+    sym (out-0 m len room (s .footprint) (totalOf m) (side-is (m .width) (s .width)) (side-is (m .height) (s .height)) refl (s .bytes) (s .room))
+
+pub sized-bounded : (m : Shape) (len places : ℕ) → Sized m len places → Bounded m
+sized-bounded m len places s = record { width = s .width; height = s .height; sides = sides-of (m .footprint) (s .footprint) }
+
+-- an output of the same length has the same room
+pub same-sized : (m : Shape) (len p q : ℕ) → Sized m len p → q ≡ p → Sized m len q
+same-sized m len p q s e = rw e s

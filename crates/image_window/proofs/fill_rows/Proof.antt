@@ -1,0 +1,60 @@
+-- `image_window::fill_rows` meets its contract by its loop: the rows before r are in place. Assumes nothing.
+use lib.ListN.{length}
+use Rattle.image_window.specs.Windows.{rowsPut}
+use Rattle.image_window.specs.MarkLaws.{rows-first, rows-turn, rows-last, length-rowsPut}
+use Prim.Native.Nat.{ℕ, _-_, _≤_, _<_}
+use mathlib.Core.Path.{_≡_, ap, _∙_}
+use native.Mathlib.Omega.{arith}
+use Rattle.image_window.proofs.fill_rows.Statement.{statement}
+use Rattle.image_window.proofs.fill_rows.Tie as tie
+
+abbrev Inv-loop : tie.InvT-loop
+Inv-loop word out₀ at width rows n r₀ out r = (r ≤ rows) × (out ≡ rowsPut (λ (y x : ℕ). word) at width n r out₀)
+
+abbrev μ-loop : tie.MeasureT-loop
+μ-loop word out₀ at width rows n r₀ out r = rows - r
+
+loop-holds : tie.Need-loop-holds Inv-loop μ-loop
+loop-holds c = (omega arith, rows-first _ _ _ _ _)
+
+mul-fill : tie.Need-mul-fill Inv-loop μ-loop
+mul-fill c =
+    let l = c .before .before .loop in
+    let s = c .before .before .before .before in
+    let t : l .r < s .args .rows = omega arith in
+    omega (arith, s .pre (l .r) t)
+
+add-fill : tie.Need-add-fill Inv-loop μ-loop
+add-fill c =
+    let l = c .before .before .loop in
+    let s = c .before .before .before .before in
+    let t : l .r < s .args .rows = omega arith in
+    omega (arith, s .pre (l .r) t)
+
+fill-requires : tie.Need-fill-requires Inv-loop μ-loop
+fill-requires c κs =
+    let l = c .before .before .loop in
+    let s = c .before .before .before .before in
+    let t : l .r < s .args .rows = omega arith in
+    let e : length (l .out) ≡ length (s .args .out .now) = ap length (l .inv .1) ∙ length-rowsPut _ _ _ _ _ _ in
+    omega (arith, e, s .pre (l .r) t)
+
+add-r : tie.Need-add-r Inv-loop μ-loop
+add-r c = omega arith
+
+loop-less : tie.Need-loop-less Inv-loop μ-loop
+loop-less c = omega arith
+
+loop-again : tie.Need-loop-again Inv-loop μ-loop
+loop-again c = let l = c .before .before .before .before .before .loop in (omega arith, rows-turn _ _ _ _ (l .r) _ _ _ (l .inv .1) (c .before .before .fill .ensures))
+
+same-length : tie.Need-same-length Inv-loop μ-loop
+same-length c = ap length (c .before .loop .inv .1) ∙ length-rowsPut _ _ _ _ _ _
+
+returns : tie.Need-returns Inv-loop μ-loop
+returns c = let l = c .before .loop in rows-last _ _ _ _ (l .r) _ _ _ (l .inv .1) (omega arith) (omega arith)
+
+pub fill-rows-spec : {M : Type 1} → statement M
+fill-rows-spec =
+    tie.close
+    (tie.spec Inv-loop μ-loop loop-holds mul-fill add-fill fill-requires add-r loop-less loop-again same-length returns)
