@@ -1,17 +1,12 @@
 -- The laws of fields.
 -- Assumes nothing.
-use mathlib.Core.Path.{_≡_, refl, sym, ap, subst, _∙_}
-use mathlib.Core.List.{List}
+use mathlib.Core.Path.{_≡_, sym, ap, subst, _∙_}
 use Prim.Native.Nat.{ℕ, zero, suc, _+_, _*_, _-_, _/_, _%_, _^_, _≤_, _<_}
-use native.Mathlib.Nat.{add-zero, zero-add, suc-add, add-comm, add-assoc, pow-succ', mod-lt, mod-one, mod-eq-of-lt, div-one, mul-add-div-right, mul-div-cancel, mul-mod-left, mul-assoc, add-mul, one-mul, lt-of-le-of-lt, zero-mul, div-eq-of-lt, lt-of-lt-of-le}
-use native.Mathlib.Numerals.{add-one, one-add}
+use native.Mathlib.Nat.{add-zero, zero-add, suc-add, add-comm, mod-lt, mod-one, mod-eq-of-lt, div-one, mul-add-div-right, mul-div-cancel, mul-mod-left, mul-assoc, one-mul, lt-of-le-of-lt, div-eq-of-lt, lt-of-lt-of-le}
 use native.Mathlib.Omega.{arith}
 use lib.Pow.{pow-pos, pow-add, field, mod-mod-pow, shr-shr, mod-pow-add, high, low, split, pow-mono, pow-lt, shr-lt, shr-le}
 use lib.Arith.{digits-lt}
-use lib.Dec.{lit<}
-use lib.ListN.{getD}
-use Rattle.laws.specs.Lists.{getD-listOf}
-use Rattle.bits.specs.Bits.{bitsAt, bytes, reversed, reversals}
+use Rattle.bits.specs.Bits.{bitsAt}
 
 pub bits-lt : (v s n : ℕ) → bitsAt v s n < 2 ^ n
 unfolding bitsAt
@@ -96,55 +91,6 @@ both-words hi lo s t e h =
     let f : t + s ≡ 64 = omega arith in
     rw f at (rw e at (across hi lo s t (rw f h)))
 
--- reversal: of a number in two parts
-pub reversed-split : (n m v : ℕ) → reversed (n + m) v ≡ reversed n v * 2 ^ m + reversed m (v / 2 ^ n)
-unfolding reversed
-reversed-split zero m v = rw (zero-add m, div-one v, zero-mul (2 ^ m), zero-add (reversed m v))
-reversed-split (suc n) m v =
-    rw (suc-add n m, reversed-split n m (v / 2), pow-add 2 n m, shr-shr v 1 n, one-add n, add-mul (v % 2 * 2 ^ n) (reversed n (v / 2)) (2 ^ m), mul-assoc (v % 2) (2 ^ n) (2 ^ m))
-    (sym (add-assoc _ _ _))
-
-pub reversed-lt : (n v : ℕ) → reversed n v < 2 ^ n
-unfolding reversed
-reversed-lt zero v = lit< tt
-reversed-lt (suc n) v = rw (pow-succ' 2 n) (digits-lt (mod-lt v (lit< tt)) (reversed-lt n (v / 2)))
-
--- it takes the low n bits alone
-pub reversed-low : (n v : ℕ) → reversed n (v % 2 ^ n) ≡ reversed n v
-unfolding reversed
-reversed-low zero v = refl
-reversed-low (suc n) v =
-    let e : 2 ^ suc n ≡ 2 ^ (n + 1) = ap (λ (m : ℕ). 2 ^ m) (sym (add-one n)) in
-    rw (e, mod-mod-pow v n 1, field v n 1, reversed-low n (v / 2))
-
--- of two halves: what each wider function of the code does
-pub reversed-halves : (n v : ℕ) → reversed (n + n) v ≡ reversed n (v % 2 ^ n) * 2 ^ n + reversed n (v / 2 ^ n)
-reversed-halves n v = rw (reversed-low n v) (reversed-split n n v)
-
--- a field of the reversed number is the reversed field from the other end
-pub reversed-field : (a n s v : ℕ) → bitsAt (reversed (a + (n + s)) v) s n ≡ reversed n (bitsAt v a n)
-unfolding bitsAt
-reversed-field a n s v =
-    let e : reversed a v * 2 ^ (n + s) + (reversed n (v / 2 ^ a) * 2 ^ s + reversed s (v / 2 ^ a / 2 ^ n))
-    ≡ (reversed a v * 2 ^ n + reversed n (v / 2 ^ a)) * 2 ^ s + reversed s (v / 2 ^ a / 2 ^ n) =
-    rw (pow-add 2 n s, add-mul (reversed a v * 2 ^ n) (reversed n (v / 2 ^ a)) (2 ^ s), mul-assoc (reversed a v) (2 ^ n) (2 ^ s)) (sym (add-assoc _ _ _)) in
-    rw (reversed-split a (n + s) v, reversed-split n s (v / 2 ^ a), e, high (reversed a v * 2 ^ n + reversed n (v / 2 ^ a)) s {lo = reversed s (v / 2 ^ a / 2 ^ n)} (reversed-lt s _), low (reversed a v) n {lo = reversed n (v / 2 ^ a)} (reversed-lt n _), reversed-low n (v / 2 ^ a))
-
-one-bit : (x : ℕ) → x < 2 → reversed 1 x ≡ x
-unfolding reversed
-one-bit x h = omega arith
-
--- bit k of the reversed number is bit n - 1 - k
-pub reversed-bit : (n v k : ℕ) → k < n → bitsAt (reversed n v) k 1 ≡ bitsAt v (n - 1 - k) 1
-reversed-bit n v k h =
-    let e : (n - 1 - k) + (1 + k) ≡ n = omega arith in
-    rw e at (reversed-field (n - 1 - k) 1 k v) ∙ one-bit (bitsAt v (n - 1 - k) 1) (bits-lt v (n - 1 - k) 1)
-
--- the two words of a block change places
-pub reversed-words : (hi lo : ℕ) → lo < 2 ^ 64 → reversed 128 (hi * 2 ^ 64 + lo) ≡ reversed 64 lo * 2 ^ 64 + reversed 64 hi
-reversed-words hi lo h =
-    reversed-halves 64 (hi * 2 ^ 64 + lo) ∙ rw (high hi 64 {lo = lo} h, low hi 64 {lo = lo} h)
-
 -- what a machine's shift gives
 pub one-shl : (n : ℕ) → n < 64 → 1 * 2 ^ n % 2 ^ 64 ≡ 2 ^ n
 one-shl n h = rw (one-mul (2 ^ n)) (mod-eq-of-lt (pow-lt h))
@@ -168,12 +114,6 @@ words-lt hi lo h l = digits-lt {q = hi} {m = 2 ^ 64} {r = lo} {c = 2 ^ 64} h l
 pub bits-longer : (v s m n : ℕ) → v < 2 ^ m → m ≤ n → bitsAt v s n ≡ bitsAt v s m
 bits-longer v s m n h l = bits-shr v s n (lt-of-lt-of-le h (pow-mono l)) ∙ sym (bits-shr v s m h)
 
--- the field from the top of the reversed number
-pub reversed-top : (m n v : ℕ) → n ≤ m → bitsAt (reversed m v) 0 n ≡ reversed n (bitsAt v (m - n) n)
-reversed-top m n v h =
-    let e : (m - n) + (n + 0) ≡ m = omega arith in
-    rw e at (reversed-field (m - n) n 0 v)
-
 -- a number without its low bits, word by word
 pub skipped : (hi lo n t : ℕ) → n + t ≡ 64 → lo < 2 ^ 64 → hi / 2 ^ n * 2 ^ 64 + (lo / 2 ^ n + hi * 2 ^ t % 2 ^ 64) ≡ (hi * 2 ^ 64 + lo) / 2 ^ n
 unfolding bitsAt
@@ -182,44 +122,3 @@ skipped hi lo n t e h =
     let up : v / 2 ^ n / 2 ^ 64 ≡ hi / 2 ^ n =
     rw (shr-shr v n 64, add-comm n 64, ← (shr-shr v 64 n), high hi 64 {lo = lo} h) in
     rw (← (both-words hi lo n t e h), ← up) (split (v / 2 ^ n) 64)
-
--- the table of reversed bytes, at the low byte of a number
-pub reversals-at : (x : ℕ) → getD reversals (x % 256) 0 ≡ reversed 8 x
-unfolding reversals
-reversals-at x =
-    getD-listOf (reversed 8) 0 256 (x % 256) (omega arith) ∙ ap (reversed 8) (zero-add (x % 256)) ∙ reversed-low 8 x
-
--- one byte more
-reversed-byte : (m k v : ℕ) → reversed (8 + m) (v / 2 ^ k) ≡ reversed 8 (v / 2 ^ k) * 2 ^ m + reversed m (v / 2 ^ (k + 8))
-reversed-byte m k v = reversed-split 8 m (v / 2 ^ k) ∙ rw (shr-shr v k 8)
-
--- a word, byte by byte
-pub reversed-bytes : (v : ℕ)
-    → reversed 64 v
-    ≡ reversed 8 (v / 2 ^ 56)
-    + 0x100 * reversed 8 (v / 2 ^ 48)
-    + 0x1_0000 * reversed 8 (v / 2 ^ 40)
-    + 0x100_0000 * reversed 8 (v / 2 ^ 32)
-    + 0x1_0000_0000 * reversed 8 (v / 2 ^ 24)
-    + 0x100_0000_0000 * reversed 8 (v / 2 ^ 16)
-    + 0x1_0000_0000_0000 * reversed 8 (v / 2 ^ 8)
-    + 0x100_0000_0000_0000 * reversed 8 (v / 2 ^ 0)
-reversed-bytes v =
-    let one : reversed 64 v ≡ reversed 64 (v / 2 ^ 0) = ap (reversed 64) (sym (div-one v)) in
-    omega (arith, one, reversed-byte 56 0 v, reversed-byte 48 8 v, reversed-byte 40 16 v, reversed-byte 32 24 v, reversed-byte 24 32 v, reversed-byte 16 40 v, reversed-byte 8 48 v)
-
--- the number of sixteen bytes, by the words of the first eight and the last eight
-abbrev wordAt : List ℕ → ℕ → ℕ
-wordAt s i =
-    getD s i 0
-    + 0x100 * getD s (i + 1) 0
-    + 0x1_0000 * getD s (i + 2) 0
-    + 0x100_0000 * getD s (i + 3) 0
-    + 0x1_0000_0000 * getD s (i + 4) 0
-    + 0x100_0000_0000 * getD s (i + 5) 0
-    + 0x1_0000_0000_0000 * getD s (i + 6) 0
-    + 0x100_0000_0000_0000 * getD s (i + 7) 0
-
-pub bytes-words : (s : List ℕ) (lo hi : ℕ) → lo ≡ wordAt s 0 → hi ≡ wordAt s 8 → hi * 2 ^ 64 + lo ≡ bytes 16 s
-unfolding bytes
-bytes-words s lo hi p q = rw (p, q) (omega arith)

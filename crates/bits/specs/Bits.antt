@@ -4,7 +4,6 @@
 use mathlib.Core.List.{List}
 use Prim.Native.Nat.{ℕ, zero, suc, _+_, _*_, _/_, _%_, _^_}
 use lib.ListN.{getD}
-use Rattle.laws.specs.Lists.{listOf}
 
 unfoldable pub bitsAt : ℕ → ℕ → ℕ → ℕ
 bitsAt v s n = v / 2 ^ s % 2 ^ n
@@ -18,7 +17,3 @@ bytes (suc n) s = bytes n s + getD s n 0 * 256 ^ n
 unfoldable pub reversed : ℕ → ℕ → ℕ
 reversed zero v = 0
 reversed (suc n) v = v % 2 * 2 ^ n + reversed n (v / 2)
-
--- entry x is the byte x with its bits in the other order
-unfoldable pub reversals : List ℕ
-reversals = listOf (reversed 8) 0 256

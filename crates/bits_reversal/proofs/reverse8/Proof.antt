@@ -1,10 +1,10 @@
 -- The table's entry at a byte is the reversed byte.
 use mathlib.Core.Path.{_∙_}
 use Prim.Native.Nat.{_/_, _^_}
-use Rattle.bits.specs.BitLaws.{reversals-at}
+use Rattle.bits_reversal.specs.ReversalLaws.{reversals-at}
 use borrow.Author.Needs.{needs}
-use Rattle.bits.proofs.reverse8.Statement.{statement}
-use Rattle.bits.proofs.reverse8.Tie as tie
+use Rattle.bits_reversal.proofs.reverse8.Statement.{statement}
+use Rattle.bits_reversal.proofs.reverse8.Tie as tie
 
 shr-wide : tie.Need-shr-wide
 shr-wide c = search needs

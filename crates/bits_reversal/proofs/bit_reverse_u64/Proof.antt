@@ -1,9 +1,9 @@
 -- The reversed word, byte by byte.
 use mathlib.Core.Path.{sym}
-use Rattle.bits.specs.BitLaws.{reversed-bytes}
+use Rattle.bits_reversal.specs.ReversalLaws.{reversed-bytes}
 use borrow.Author.Needs.{needs}
-use Rattle.bits.proofs.bit_reverse_u64.Statement.{statement}
-use Rattle.bits.proofs.bit_reverse_u64.Tie as tie
+use Rattle.bits_reversal.proofs.bit_reverse_u64.Statement.{statement}
+use Rattle.bits_reversal.proofs.bit_reverse_u64.Tie as tie
 
 reverse8-requires : tie.Need-reverse8-requires
 reverse8-requires c κs = search needs

@@ -1,10 +1,10 @@
 -- The words change places, each reversed.
 use mathlib.Core.Path.{sym}
 use native.Mathlib.Omega.{arith}
-use Rattle.bits.specs.BitLaws.{reversed-words}
+use Rattle.bits_reversal.specs.ReversalLaws.{reversed-words}
 use borrow.Author.Needs.{needs}
-use Rattle.bits.proofs.reverse.Statement.{statement}
-use Rattle.bits.proofs.reverse.Tie as tie
+use Rattle.bits_reversal.proofs.reverse.Statement.{statement}
+use Rattle.bits_reversal.proofs.reverse.Tie as tie
 
 bit-reverse-u64-requires : tie.Need-bit-reverse-u64-requires
 bit-reverse-u64-requires c κs = search needs

@@ -1,9 +1,10 @@
 -- One test over all 256 entries.
 use mathlib.Core.Path.{refl}
 use Rattle.laws.specs.Lists.{tested}
-use Rattle.bits.specs.Bits.{reversed, reversals}
-use Rattle.bits.proofs.reversal.Statement.{statement}
-use Rattle.bits.proofs.reversal.Tie as tie
+use Rattle.bits.specs.Bits.{reversed}
+use Rattle.bits_reversal.specs.Reversals.{reversals}
+use Rattle.bits_reversal.proofs.reversal.Statement.{statement}
+use Rattle.bits_reversal.proofs.reversal.Tie as tie
 
 returns : tie.Need-returns
 unfolding reversed reversals

@@ -1,8 +1,8 @@
 -- Two words of eight bytes are the sum of sixteen.
-use Rattle.bits.specs.BitLaws.{bytes-words}
+use Rattle.bits_load.specs.LoadLaws.{bytes-words}
 use borrow.Author.Needs.{needs}
-use Rattle.bits.proofs.load.Statement.{statement}
-use Rattle.bits.proofs.load.Tie as tie
+use Rattle.bits_load.proofs.load.Statement.{statement}
+use Rattle.bits_load.proofs.load.Tie as tie
 
 shared-slice-read-word : tie.Need-shared-slice-read-word
 shared-slice-read-word c = search needs

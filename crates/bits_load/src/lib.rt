@@ -1,0 +1,38 @@
+// The block that 16 bytes are.
+ghost use mathlib.Core.Path.{_≡_};
+ghost use Prim.Native.Nat.{_+_, _*_, _<_};
+ghost use lib.ListN.{length};
+ghost use Rattle.bits.specs.Bits.{bytes};
+ghost use Rattle.bits.specs.Blocks.{valueOf};
+use bits::Block;
+
+fn wide(x: u8) -> u64
+    ensures { λ r. ⌜ (r ≡ x) × (r < 256) ⌝ }
+{
+    x as u64
+}
+
+// Eight bytes as a word, the first the lowest.
+fn word(a: u8, b: u8, c: u8, d: u8, e: u8, f: u8, g: u8, h: u8) -> u64
+    ensures { λ r. ⌜ r ≡ a + 0x100 * b + 0x1_0000 * c + 0x100_0000 * d + 0x1_0000_0000 * e + 0x100_0000_0000 * f + 0x1_0000_0000_0000 * g + 0x100_0000_0000_0000 * h ⌝ }
+{
+    wide(a)
+        + 0x100 * wide(b)
+        + 0x1_0000 * wide(c)
+        + 0x100_0000 * wide(d)
+        + 0x1_0000_0000 * wide(e)
+        + 0x100_0000_0000 * wide(f)
+        + 0x1_0000_0000_0000 * wide(g)
+        + 0x100_0000_0000_0000 * wide(h)
+}
+
+// The block that 16 bytes are.
+pub fn load(s: &[u8]) -> Block
+    requires { ⌜ length (now s) ≡ 16 ⌝ }
+    ensures { λ r. ⌜ valueOf r ≡ bytes 16 (now (s .entry)) ⌝ }
+{
+    Block {
+        lo: word(s[0], s[1], s[2], s[3], s[4], s[5], s[6], s[7]),
+        hi: word(s[8], s[9], s[10], s[11], s[12], s[13], s[14], s[15]),
+    }
+}

@@ -1,0 +1,2 @@
+pub mod Reversals
+pub mod ReversalLaws
