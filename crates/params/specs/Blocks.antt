@@ -1,10 +1,12 @@
 -- A block's answer, parameters and map. v is the block's number of 128 bits; its bits are read by whole fields alone.
 -- Assumes nothing.
-use mathlib.Core.Bool.{Bool, false, cond, _&&_, _||_}
+use mathlib.Core.Bool.{cond, _&&_}
 use mathlib.Core.List.{List, [], _∷_}
 use Prim.Native.Nat.{ℕ, _+_, _-_, _*_, _/_, _%_}
 use lib.Dec.{eqb, ltb}
 use Rattle.bits.specs.Bits.{bitsAt}
+use Rattle.answers.specs.Answers.{voidExtent, reservedMode, gridTooLarge, tooManyWeights, weightBits, dualPlaneOfFour, tooManyValues, tooLittleRoom}
+use Rattle.footprint.specs.declared.Footprint.{Footprint}
 use Rattle.params.specs.Ranges.{cost, widest}
 use Rattle.sequence.specs.Ranges.{topOf}
 use Rattle.params.specs.Config.{isVoid, isReserved, configOf, partsOf, confLen, numberOf, modeOf}
@@ -14,20 +16,6 @@ use Rattle.params.specs.declared.Judged.{Judged}
 use Rattle.params.specs.declared.Params.{Params}
 
 -- ---- the answer
-unfoldable pub oneOf2 : ℕ → ℕ → ℕ → Bool
-oneOf2 h a b = eqb h a || eqb h b
-
--- the heights of each width
-unfoldable pub listed : ℕ → ℕ → Bool
-listed w h =
-    cond (eqb w 4) (eqb h 4)
-    (cond (eqb w 5) (oneOf2 h 4 5)
-    (cond (eqb w 6) (oneOf2 h 5 6)
-    (cond (eqb w 8) (oneOf2 h 5 6 || eqb h 8)
-    (cond (eqb w 10) (oneOf2 h 5 6 || oneOf2 h 8 10)
-    (cond (eqb w 12) (oneOf2 h 10 12)
-    false)))))
-
 -- mode bits below the weights, and two for the channel of the second plane below those
 abbrev pub extraLen : Config → ℕ
 extraLen k = k .modebits + 2 * (k .planes - 1)
@@ -42,27 +30,27 @@ weights k = k .width * k .height * k .planes
 -- rules 15 and 16
 unfoldable pub endVerdict : Config → ℕ
 endVerdict k =
-    cond (ltb 18 (k .values)) 15
-    (cond (ltb 128 ((13 * k .values + 4) / 5 + used k)) 16
+    cond (ltb 18 (k .values)) tooManyValues
+    (cond (ltb 128 ((13 * k .values + 4) / 5 + used k)) tooLittleRoom
     0)
 
 -- rules 11 to 16
-unfoldable pub verdict : Config → ℕ → ℕ → ℕ
-verdict k bw bh =
-    cond (ltb bw (k .width)) 11
-    (cond (ltb bh (k .height)) 11
-    (cond (ltb 64 (weights k)) 12
-    (cond (ltb (k .weightlen) 24) 13
-    (cond (ltb 96 (k .weightlen)) 13
-    (cond (eqb (k .planes) 2 && eqb (k .parts) 4) 14
+unfoldable pub verdict : Config → Footprint → ℕ
+verdict k f =
+    cond (ltb (f .width) (k .width)) gridTooLarge
+    (cond (ltb (f .height) (k .height)) gridTooLarge
+    (cond (ltb 64 (weights k)) tooManyWeights
+    (cond (ltb (k .weightlen) 24) weightBits
+    (cond (ltb 96 (k .weightlen)) weightBits
+    (cond (eqb (k .planes) 2 && eqb (k .parts) 4) dualPlaneOfFour
     (endVerdict k))))))
 
 -- of the low configuration c at a footprint
-unfoldable pub answer : ℕ → ℕ → ℕ → ℕ
-answer c bw bh =
-    cond (isVoid c) 1
-    (cond (isReserved c) 10
-    (verdict (configOf c) bw bh))
+unfoldable pub answer : ℕ → Footprint → ℕ
+answer c f =
+    cond (isVoid c) voidExtent
+    (cond (isReserved c) reservedMode
+    (verdict (configOf c) f))
 
 -- ---- the fields
 -- the low configuration
@@ -125,12 +113,12 @@ refused a = record { answer = a; config = noConfig; channel = 0; modes = 0 ∷ 0
 abbrev pub extraOf : Map → ℕ → ℕ
 extraOf m v = bitsAt v (m .extraat) (m .extralen)
 
-unfoldable pub paramsOf : ℕ → ℕ → ℕ → Params
-paramsOf v bw bh =
+unfoldable pub paramsOf : ℕ → Footprint → Params
+paramsOf v f =
     let c = lowOf v in
-    cond (eqb (answer c bw bh) 0)
+    cond (eqb (answer c f) 0)
     (legal c (extraOf (mapOf (configOf c)) v))
-    (refused (answer c bw bh))
+    (refused (answer c f))
 
 -- ---- the answer and the map alone
 abbrev pub judgedOf : Params → Judged

@@ -10,6 +10,7 @@ use lib.Dec.{leb, ltb, eqb}
 use Rattle.bits.specs.Bits.{bitsAt}
 use Rattle.bits.specs.BitLaws.{locality, same-bits}
 use Rattle.laws.specs.Table.{at}
+use Rattle.footprint.specs.declared.Footprint.{Footprint}
 use Rattle.sequence.specs.Ranges.{rangeOf, ranges}
 use Rattle.sequence.specs.Sequence.{totalOf}
 use Rattle.params.specs.Ranges.{cost, widest}
@@ -31,9 +32,9 @@ passed true k r e = absurd (no e)
     no h = omega arith
 passed false k r e = (refl, e)
 
-pub record Legal (k : Config) (bw bh : ℕ) : Type 0 where
-  pub wide : k .width ≤ bw
-  pub high : k .height ≤ bh
+pub record Legal (k : Config) (f : Footprint) : Type 0 where
+  pub wide : k .width ≤ f .width
+  pub high : k .height ≤ f .height
   pub few : weights k ≤ 64
   pub least : 24 ≤ k .weightlen
   pub most : k .weightlen ≤ 96
@@ -41,9 +42,9 @@ pub record Legal (k : Config) (bw bh : ℕ) : Type 0 where
   pub values : k .values ≤ 18
   pub room : (13 * k .values + 4) / 5 + used k ≤ 128
 
-pub verdict-legal : (k : Config) (bw bh : ℕ) → verdict k bw bh ≡ 0 → Legal k bw bh
+pub verdict-legal : (k : Config) (f : Footprint) → verdict k f ≡ 0 → Legal k f
 unfolding verdict endVerdict
-verdict-legal k bw bh e =
+verdict-legal k f e =
     let s1 = passed _ 10 _ e in
     let s2 = passed _ 10 _ (s1 .1) in
     let s3 = passed _ 11 _ (s2 .1) in
@@ -63,51 +64,51 @@ verdict-legal k bw bh e =
       room = ltb-false _ _ (s8 .0);
     }
 
-pub record Ordinary (c bw bh : ℕ) : Type 0 where
+pub record Ordinary (c : ℕ) (f : Footprint) : Type 0 where
   pub void : isVoid c ≡ false
   pub free : isReserved c ≡ false
-  pub rules : Legal (configOf c) bw bh
+  pub rules : Legal (configOf c) f
 
-pub ordinary : (c bw bh : ℕ) → answer c bw bh ≡ 0 → Ordinary c bw bh
+pub ordinary : (c : ℕ) (f : Footprint) → answer c f ≡ 0 → Ordinary c f
 unfolding answer
-ordinary c bw bh e =
+ordinary c f e =
     let s1 = passed _ 0 _ e in
     let s2 = passed _ 9 _ (s1 .1) in
-    record { void = s1 .0; free = s2 .0; rules = verdict-legal _ _ _ (s2 .1) }
+    record { void = s1 .0; free = s2 .0; rules = verdict-legal _ _ (s2 .1) }
 
 -- the chain, one lemma for each way out: a proof of a function that makes the tests in this order is `search` over these
-module _ (k : Config) (bw bh : ℕ) where
-  pub on-width : bw < k .width → 11 ≡ verdict k bw bh
+module _ (k : Config) (f : Footprint) where
+  pub on-width : f .width < k .width → 11 ≡ verdict k f
   unfolding verdict
   on-width a = simp (lt-ltb _ _ a)
 
-  pub on-height : k .width ≤ bw → bh < k .height → 11 ≡ verdict k bw bh
+  pub on-height : k .width ≤ f .width → f .height < k .height → 11 ≡ verdict k f
   unfolding verdict
   on-height a b = simp (le-ltb _ _ a, lt-ltb _ _ b)
 
-  pub on-many : k .width ≤ bw → k .height ≤ bh → 64 < weights k → 12 ≡ verdict k bw bh
+  pub on-many : k .width ≤ f .width → k .height ≤ f .height → 64 < weights k → 12 ≡ verdict k f
   unfolding verdict
   on-many a b c = simp (le-ltb _ _ a, le-ltb _ _ b, lt-ltb _ _ c)
 
-  pub on-few : k .width ≤ bw → k .height ≤ bh → weights k ≤ 64 → k .weightlen < 24 → 13 ≡ verdict k bw bh
+  pub on-few : k .width ≤ f .width → k .height ≤ f .height → weights k ≤ 64 → k .weightlen < 24 → 13 ≡ verdict k f
   unfolding verdict
   on-few a b c d = simp (le-ltb _ _ a, le-ltb _ _ b, le-ltb _ _ c, lt-ltb _ _ d)
 
-  pub on-long : k .width ≤ bw → k .height ≤ bh → weights k ≤ 64 → 24 ≤ k .weightlen → 96 < k .weightlen → 13 ≡ verdict k bw bh
+  pub on-long : k .width ≤ f .width → k .height ≤ f .height → weights k ≤ 64 → 24 ≤ k .weightlen → 96 < k .weightlen → 13 ≡ verdict k f
   unfolding verdict
   on-long a b c d e = simp (le-ltb _ _ a, le-ltb _ _ b, le-ltb _ _ c, le-ltb _ _ d, lt-ltb _ _ e)
 
-  pub on-planes : k .width ≤ bw → k .height ≤ bh → weights k ≤ 64 → 24 ≤ k .weightlen → k .weightlen ≤ 96 → k .planes ≡ 2 → k .parts ≡ 4 → 14 ≡ verdict k bw bh
+  pub on-planes : k .width ≤ f .width → k .height ≤ f .height → weights k ≤ 64 → 24 ≤ k .weightlen → k .weightlen ≤ 96 → k .planes ≡ 2 → k .parts ≡ 4 → 14 ≡ verdict k f
   unfolding verdict
-  on-planes a b c d e f g = simp (le-ltb _ _ a, le-ltb _ _ b, le-ltb _ _ c, le-ltb _ _ d, le-ltb _ _ e, eq-eqb _ _ f, eq-eqb _ _ g)
+  on-planes a b c d e p g = simp (le-ltb _ _ a, le-ltb _ _ b, le-ltb _ _ c, le-ltb _ _ d, le-ltb _ _ e, eq-eqb _ _ p, eq-eqb _ _ g)
 
-  pub on-ends : (r : ℕ) → k .width ≤ bw → k .height ≤ bh → weights k ≤ 64 → 24 ≤ k .weightlen → k .weightlen ≤ 96 → (k .planes ≡ 2 → ⊥) → r ≡ endVerdict k → r ≡ verdict k bw bh
+  pub on-ends : (r : ℕ) → k .width ≤ f .width → k .height ≤ f .height → weights k ≤ 64 → 24 ≤ k .weightlen → k .weightlen ≤ 96 → (k .planes ≡ 2 → ⊥) → r ≡ endVerdict k → r ≡ verdict k f
   unfolding verdict
-  on-ends r a b c d e f g = simp (le-ltb _ _ a, le-ltb _ _ b, le-ltb _ _ c, le-ltb _ _ d, le-ltb _ _ e, ne-eqb _ _ f) g
+  on-ends r a b c d e p g = simp (le-ltb _ _ a, le-ltb _ _ b, le-ltb _ _ c, le-ltb _ _ d, le-ltb _ _ e, ne-eqb _ _ p) g
 
-  pub on-ends-dual : (r : ℕ) → k .width ≤ bw → k .height ≤ bh → weights k ≤ 64 → 24 ≤ k .weightlen → k .weightlen ≤ 96 → k .planes ≡ 2 → (k .parts ≡ 4 → ⊥) → r ≡ endVerdict k → r ≡ verdict k bw bh
+  pub on-ends-dual : (r : ℕ) → k .width ≤ f .width → k .height ≤ f .height → weights k ≤ 64 → 24 ≤ k .weightlen → k .weightlen ≤ 96 → k .planes ≡ 2 → (k .parts ≡ 4 → ⊥) → r ≡ endVerdict k → r ≡ verdict k f
   unfolding verdict
-  on-ends-dual r a b c d e f i g = simp (le-ltb _ _ a, le-ltb _ _ b, le-ltb _ _ c, le-ltb _ _ d, le-ltb _ _ e, eq-eqb _ _ f, ne-eqb _ _ i) g
+  on-ends-dual r a b c d e p i g = simp (le-ltb _ _ a, le-ltb _ _ b, le-ltb _ _ c, le-ltb _ _ d, le-ltb _ _ e, eq-eqb _ _ p, ne-eqb _ _ i) g
 
 -- ---- the range
 -- the narrowest range takes ceil (13 n / 5) bits
@@ -146,17 +147,17 @@ pub record Fields (m : Map) : Type 0 where
   pub weights : m .extraat + m .extralen ≡ m .weightat
   pub last : m .weightat + m .weightlen ≡ 128
 
-pub range-is : (c bw bh : ℕ) → answer c bw bh ≡ 0 → Widest 20 (configOf c .values) (used (configOf c)) (endRange (configOf c))
-range-is c bw bh e =
+pub range-is : (c : ℕ) (f : Footprint) → answer c f ≡ 0 → Widest 20 (configOf c .values) (used (configOf c)) (endRange (configOf c))
+range-is c f e =
     let k = configOf c in
-    let o = ordinary c bw bh e in
+    let o = ordinary c f e in
     widest-is 16 (k .values) (used k) (omega (arith, cost-4 (k .values), o .rules .room))
 
-pub fields : (c bw bh : ℕ) → answer c bw bh ≡ 0 → Fields (mapOf (configOf c))
+pub fields : (c : ℕ) (f : Footprint) → answer c f ≡ 0 → Fields (mapOf (configOf c))
 unfolding mapOf
-fields c bw bh e =
-    let w = range-is c bw bh e in
-    let l = ordinary c bw bh e .rules in
+fields c f e =
+    let w = range-is c f e in
+    let l = ordinary c f e .rules in
     record { ends = omega arith; extra = omega (arith, w .fits); weights = omega (arith, w .fits); last = omega (arith, l .most) }
 
 -- ---- locality
@@ -199,17 +200,17 @@ low-same v w s =
     let e : bitsAt v 11 2 ≡ bitsAt w 11 2 = same-bits v w 11 2 (λ k a b. s′ k (omega arith) (omega (arith, conf-least p))) in
     same-bits v w 0 (confLen p) s′ ∙ ap (λ (x : ℕ). bitsAt w 0 (confLen (x + 1))) e
 
-pub answer-is : (v bw bh : ℕ) → paramsOf v bw bh .answer ≡ answer (lowOf v) bw bh
+pub answer-is : (v : ℕ) (f : Footprint) → paramsOf v f .answer ≡ answer (lowOf v) f
 unfolding paramsOf legal refused
-answer-is v bw bh = go (answer (lowOf v) bw bh) (eqb (answer (lowOf v) bw bh) 0) refl
+answer-is v f = go (answer (lowOf v) f) (eqb (answer (lowOf v) f) 0) refl
   where
     go : (a : ℕ) (b : Bool) → eqb a 0 ≡ b → cond b (legal (lowOf v) (extraOf (mapOf (configOf (lowOf v))) v)) (refused a) .answer ≡ a
     go a true e = sym (eqb-true _ _ e)
     go a false e = refl
 
-pub legal-is : (v bw bh : ℕ) → answer (lowOf v) bw bh ≡ 0 → paramsOf v bw bh ≡ legal (lowOf v) (extraOf (mapOf (configOf (lowOf v))) v)
+pub legal-is : (v : ℕ) (f : Footprint) → answer (lowOf v) f ≡ 0 → paramsOf v f ≡ legal (lowOf v) (extraOf (mapOf (configOf (lowOf v))) v)
 unfolding paramsOf
-legal-is v bw bh e = rw e
+legal-is v f e = rw e
 
 -- ---- a void block
 pub void-low : (v : ℕ) → isVoid (lowOf v) ≡ isVoid v
@@ -221,11 +222,11 @@ neither : (b : Bool) (x y : ℕ) → (x ≡ 1 → ⊥) → (y ≡ 1 → ⊥) →
 neither true x y h l = h
 neither false x y h l = l
 
-not-1 : (k : Config) (bw bh : ℕ) → verdict k bw bh ≡ 1 → ⊥
+not-1 : (k : Config) (f : Footprint) → verdict k f ≡ 1 → ⊥
 unfolding verdict endVerdict
-not-1 k bw bh =
-    neither (ltb bw (k .width)) 11 _ (λ e. omega arith)
-    (neither (ltb bh (k .height)) 11 _ (λ e. omega arith)
+not-1 k f =
+    neither (ltb (f .width) (k .width)) 11 _ (λ e. omega arith)
+    (neither (ltb (f .height) (k .height)) 11 _ (λ e. omega arith)
     (neither (ltb 64 (weights k)) 12 _ (λ e. omega arith)
     (neither (ltb (k .weightlen) 24) 13 _ (λ e. omega arith)
     (neither (ltb 96 (k .weightlen)) 13 _ (λ e. omega arith)
@@ -233,78 +234,78 @@ not-1 k bw bh =
     (neither (ltb 18 (k .values)) 15 _ (λ e. omega arith)
     (neither (ltb 128 ((13 * k .values + 4) / 5 + used k)) 16 0 (λ e. omega arith) (λ e. omega arith))))))))
 
-pub void-alone : (v bw bh : ℕ) → isVoid v ≡ false → paramsOf v bw bh .answer ≡ 1 → ⊥
+pub void-alone : (v : ℕ) (f : Footprint) → isVoid v ≡ false → paramsOf v f .answer ≡ 1 → ⊥
 unfolding answer
-void-alone v bw bh h e = neither (isReserved (lowOf v)) 10 _ (λ z. omega arith) (not-1 (configOf (lowOf v)) bw bh) (rw (void-low v, h) at (sym (answer-is v bw bh) ∙ e))
+void-alone v f h e = neither (isReserved (lowOf v)) 10 _ (λ z. omega arith) (not-1 (configOf (lowOf v)) f) (rw (void-low v, h) at (sym (answer-is v f) ∙ e))
 
 -- ---- the same by the checks, for a decoder that makes them one after the other
-pub answer-1 : (c bw bh : ℕ) → isVoid c ≡ true → answer c bw bh ≡ 1
+pub answer-1 : (c : ℕ) (f : Footprint) → isVoid c ≡ true → answer c f ≡ 1
 unfolding answer
-answer-1 c bw bh w = rw w
+answer-1 c f w = rw w
 
-pub answer-10 : (c bw bh : ℕ) → isVoid c ≡ false → isReserved c ≡ true → answer c bw bh ≡ 10
+pub answer-10 : (c : ℕ) (f : Footprint) → isVoid c ≡ false → isReserved c ≡ true → answer c f ≡ 10
 unfolding answer
-answer-10 c bw bh w r = rw (w, r)
+answer-10 c f w r = rw (w, r)
 
-pub answer-rest : (c bw bh : ℕ) → isVoid c ≡ false → isReserved c ≡ false → answer c bw bh ≡ verdict (configOf c) bw bh
+pub answer-rest : (c : ℕ) (f : Footprint) → isVoid c ≡ false → isReserved c ≡ false → answer c f ≡ verdict (configOf c) f
 unfolding answer
-answer-rest c bw bh w r = rw (w, r)
+answer-rest c f w r = rw (w, r)
 
-pub refused-low : (c v bw bh a : ℕ) → c ≡ lowOf v → answer c bw bh ≡ a → (a ≡ 0 → ⊥) → refused a ≡ paramsOf v bw bh
+pub refused-low : (c v : ℕ) (f : Footprint) (a : ℕ) → c ≡ lowOf v → answer c f ≡ a → (a ≡ 0 → ⊥) → refused a ≡ paramsOf v f
 unfolding paramsOf
-refused-low c v bw bh a e h z = rw (← e, h, ne-eqb a 0 z)
+refused-low c v f a e h z = rw (← e, h, ne-eqb a 0 z)
 
-pub legal-low : (c v bw bh : ℕ) → c ≡ lowOf v → answer c bw bh ≡ 0 → legal c (extraOf (mapOf (configOf c)) v) ≡ paramsOf v bw bh
+pub legal-low : (c v : ℕ) (f : Footprint) → c ≡ lowOf v → answer c f ≡ 0 → legal c (extraOf (mapOf (configOf c)) v) ≡ paramsOf v f
 unfolding paramsOf
-legal-low c v bw bh e h = rw (← e, h)
+legal-low c v f e h = rw (← e, h)
 
 -- the same with each test's flag and each part's result by name: a decoder's ways out, by `search`
-pub out-void : (v bw bh : ℕ) (r : Params) (w : Bool) → w ≡ isVoid v → w ≡ true → r ≡ refused 1 → r ≡ paramsOf v bw bh
-out-void v bw bh r w i j g = g ∙ refused-low (lowOf v) v bw bh 1 refl (answer-1 (lowOf v) bw bh (void-low v ∙ sym i ∙ j)) (λ h. omega arith)
+pub out-void : (v : ℕ) (f : Footprint) (r : Params) (w : Bool) → w ≡ isVoid v → w ≡ true → r ≡ refused 1 → r ≡ paramsOf v f
+out-void v f r w i j g = g ∙ refused-low (lowOf v) v f 1 refl (answer-1 (lowOf v) f (void-low v ∙ sym i ∙ j)) (λ h. omega arith)
 
-pub out-reserved : (v bw bh c : ℕ) (r : Params) (w s : Bool) → c ≡ lowOf v → w ≡ isVoid v → w ≡ false → s ≡ isReserved c → s ≡ true → r ≡ refused 10 → r ≡ paramsOf v bw bh
-out-reserved v bw bh c r w s q i j m n g = g ∙ refused-low c v bw bh 10 q (answer-10 c bw bh (ap isVoid q ∙ void-low v ∙ sym i ∙ j) (sym m ∙ n)) (λ h. omega arith)
+pub out-reserved : (v : ℕ) (f : Footprint) (c : ℕ) (r : Params) (w s : Bool) → c ≡ lowOf v → w ≡ isVoid v → w ≡ false → s ≡ isReserved c → s ≡ true → r ≡ refused 10 → r ≡ paramsOf v f
+out-reserved v f c r w s q i j m n g = g ∙ refused-low c v f 10 q (answer-10 c f (ap isVoid q ∙ void-low v ∙ sym i ∙ j) (sym m ∙ n)) (λ h. omega arith)
 
-ruled : (v bw bh c a : ℕ) (k : Config) (w s : Bool) → c ≡ lowOf v → w ≡ isVoid v → w ≡ false → s ≡ isReserved c → s ≡ false → k ≡ configOf c → a ≡ verdict k bw bh → answer c bw bh ≡ a
-ruled v bw bh c a k w s q i j m n o p =
-    answer-rest c bw bh (ap isVoid q ∙ void-low v ∙ sym i ∙ j) (sym m ∙ n) ∙ ap (λ (x : Config). verdict x bw bh) (sym o) ∙ sym p
+ruled : (v : ℕ) (f : Footprint) (c a : ℕ) (k : Config) (w s : Bool) → c ≡ lowOf v → w ≡ isVoid v → w ≡ false → s ≡ isReserved c → s ≡ false → k ≡ configOf c → a ≡ verdict k f → answer c f ≡ a
+ruled v f c a k w s q i j m n o p =
+    answer-rest c f (ap isVoid q ∙ void-low v ∙ sym i ∙ j) (sym m ∙ n) ∙ ap (λ (x : Config). verdict x f) (sym o) ∙ sym p
 
-pub out-rule : (v bw bh c a : ℕ) (k : Config) (r : Params) (w s : Bool) → c ≡ lowOf v → w ≡ isVoid v → w ≡ false → s ≡ isReserved c → s ≡ false → k ≡ configOf c → a ≡ verdict k bw bh → (a ≡ 0 → ⊥) → r ≡ refused a → r ≡ paramsOf v bw bh
-out-rule v bw bh c a k r w s q i j m n o p z g = g ∙ refused-low c v bw bh a q (ruled v bw bh c a k w s q i j m n o p) z
+pub out-rule : (v : ℕ) (f : Footprint) (c a : ℕ) (k : Config) (r : Params) (w s : Bool) → c ≡ lowOf v → w ≡ isVoid v → w ≡ false → s ≡ isReserved c → s ≡ false → k ≡ configOf c → a ≡ verdict k f → (a ≡ 0 → ⊥) → r ≡ refused a → r ≡ paramsOf v f
+out-rule v f c a k r w s q i j m n o p z g = g ∙ refused-low c v f a q (ruled v f c a k w s q i j m n o p) z
 
-pub out-legal : (v bw bh c a : ℕ) (k : Config) (r : Params) (w s : Bool) → c ≡ lowOf v → w ≡ isVoid v → w ≡ false → s ≡ isReserved c → s ≡ false → k ≡ configOf c → a ≡ verdict k bw bh → a ≡ 0 → r ≡ legal c (extraOf (mapOf (configOf c)) v) → r ≡ paramsOf v bw bh
-out-legal v bw bh c a k r w s q i j m n o p z g = g ∙ legal-low c v bw bh q (ruled v bw bh c a k w s q i j m n o p ∙ z)
+pub out-legal : (v : ℕ) (f : Footprint) (c a : ℕ) (k : Config) (r : Params) (w s : Bool) → c ≡ lowOf v → w ≡ isVoid v → w ≡ false → s ≡ isReserved c → s ≡ false → k ≡ configOf c → a ≡ verdict k f → a ≡ 0 → r ≡ legal c (extraOf (mapOf (configOf c)) v) → r ≡ paramsOf v f
+out-legal v f c a k r w s q i j m n o p z g = g ∙ legal-low c v f q (ruled v f c a k w s q i j m n o p ∙ z)
 
 -- the same of the answer and the map alone
-pub map-void : (v bw bh : ℕ) (r : Judged) (w : Bool) → w ≡ isVoid v → w ≡ true → r ≡ judgedOf (refused 1) → r ≡ judgedOf (paramsOf v bw bh)
-map-void v bw bh r w i j g = g ∙ ap judgedOf (out-void v bw bh (refused 1) w i j refl)
+pub map-void : (v : ℕ) (f : Footprint) (r : Judged) (w : Bool) → w ≡ isVoid v → w ≡ true → r ≡ judgedOf (refused 1) → r ≡ judgedOf (paramsOf v f)
+map-void v f r w i j g = g ∙ ap judgedOf (out-void v f (refused 1) w i j refl)
 
-pub map-reserved : (v bw bh c : ℕ) (r : Judged) (w s : Bool) → c ≡ lowOf v → w ≡ isVoid v → w ≡ false → s ≡ isReserved c → s ≡ true → r ≡ judgedOf (refused 10) → r ≡ judgedOf (paramsOf v bw bh)
-map-reserved v bw bh c r w s q i j m n g = g ∙ ap judgedOf (out-reserved v bw bh c (refused 10) w s q i j m n refl)
+pub map-reserved : (v : ℕ) (f : Footprint) (c : ℕ) (r : Judged) (w s : Bool) → c ≡ lowOf v → w ≡ isVoid v → w ≡ false → s ≡ isReserved c → s ≡ true → r ≡ judgedOf (refused 10) → r ≡ judgedOf (paramsOf v f)
+map-reserved v f c r w s q i j m n g = g ∙ ap judgedOf (out-reserved v f c (refused 10) w s q i j m n refl)
 
-pub map-rule : (v bw bh c a : ℕ) (k : Config) (r : Judged) (w s : Bool) → c ≡ lowOf v → w ≡ isVoid v → w ≡ false → s ≡ isReserved c → s ≡ false → k ≡ configOf c → a ≡ verdict k bw bh → (a ≡ 0 → ⊥) → r ≡ judgedOf (refused a) → r ≡ judgedOf (paramsOf v bw bh)
-map-rule v bw bh c a k r w s q i j m n o p z g = g ∙ ap judgedOf (out-rule v bw bh c a k (refused a) w s q i j m n o p z refl)
+pub map-rule : (v : ℕ) (f : Footprint) (c a : ℕ) (k : Config) (r : Judged) (w s : Bool) → c ≡ lowOf v → w ≡ isVoid v → w ≡ false → s ≡ isReserved c → s ≡ false → k ≡ configOf c → a ≡ verdict k f → (a ≡ 0 → ⊥) → r ≡ judgedOf (refused a) → r ≡ judgedOf (paramsOf v f)
+map-rule v f c a k r w s q i j m n o p z g = g ∙ ap judgedOf (out-rule v f c a k (refused a) w s q i j m n o p z refl)
 
-pub map-legal : (v bw bh c a : ℕ) (k : Config) (r : Judged) (w s : Bool) → c ≡ lowOf v → w ≡ isVoid v → w ≡ false → s ≡ isReserved c → s ≡ false → k ≡ configOf c → a ≡ verdict k bw bh → a ≡ 0 → r ≡ record { answer = 0; map = mapOf k } → r ≡ judgedOf (paramsOf v bw bh)
+pub map-legal : (v : ℕ) (f : Footprint) (c a : ℕ) (k : Config) (r : Judged) (w s : Bool) → c ≡ lowOf v → w ≡ isVoid v → w ≡ false → s ≡ isReserved c → s ≡ false → k ≡ configOf c → a ≡ verdict k f → a ≡ 0 → r ≡ record { answer = 0; map = mapOf k } → r ≡ judgedOf (paramsOf v f)
 unfolding legal
-map-legal v bw bh c a k r w s q i j m n o p z g =
-    g ∙ ap (λ (x : Config). record { answer = 0; map = mapOf x }) o ∙ ap judgedOf (out-legal v bw bh c a k _ w s q i j m n o p z refl)
+map-legal v f c a k r w s q i j m n o p z g =
+    g ∙ ap (λ (x : Config). record { answer = 0; map = mapOf x }) o ∙ ap judgedOf (out-legal v f c a k _ w s q i j m n o p z refl)
 
 pub small-of : (c : ℕ) (k : Config) → k ≡ configOf c → Small k
 small-of c k e = rw e (small c)
 
-pub used-of : (k : Config) (bw bh a : ℕ) → a ≡ verdict k bw bh → a ≡ 0 → used k ≤ 128
-used-of k bw bh a e z = omega (arith, verdict-legal k bw bh (sym e ∙ z) .room)
+pub used-of : (k : Config) (f : Footprint) (a : ℕ) → a ≡ verdict k f → a ≡ 0 → used k ≤ 128
+used-of k f a e z = omega (arith, verdict-legal k f (sym e ∙ z) .room)
 
-pub roomy-of : (c : ℕ) (k : Config) (bw bh a : ℕ) → k ≡ configOf c → a ≡ verdict k bw bh → a ≡ 0 → Roomy (k .values) (128 - used k)
-roomy-of c k bw bh a o e z =
-    let l = verdict-legal k bw bh (sym e ∙ z) in
+pub roomy-of : (c : ℕ) (k : Config) (f : Footprint) (a : ℕ) → k ≡ configOf c → a ≡ verdict k f → a ≡ 0 → Roomy (k .values) (128 - used k)
+roomy-of c k f a o e z =
+    let l = verdict-legal k f (sym e ∙ z) in
     let s = small-of c k o in
     record { even = s .pairs; least = s .pair; most = l .values; fits = omega (arith, l .room); block = omega arith }
 
-map-is : (v bw bh : ℕ) → answer (lowOf v) bw bh ≡ 0 → paramsOf v bw bh .map ≡ mapOf (configOf (lowOf v))
+map-is : (v : ℕ) (f : Footprint) → answer (lowOf v) f ≡ 0 → paramsOf v f .map ≡ mapOf (configOf (lowOf v))
 unfolding legal
-map-is v bw bh a = ap (λ (p : Params). p .map) (legal-is v bw bh a)
+map-is v f a = ap (λ (p : Params). p .map) (legal-is v f a)
 
 low-is : (c : ℕ) → mapOf (configOf c) .lowlen ≡ confLen (partsOf c)
 unfolding mapOf configOf
@@ -312,36 +313,36 @@ low-is c = refl
 
 -- ---- the theorems
 -- the fields of a legal block lie one after the other, so within the block and disjoint
-pub map-fields : (v bw bh : ℕ) → paramsOf v bw bh .answer ≡ 0 → Fields (paramsOf v bw bh .map)
-map-fields v bw bh e =
-    let a : answer (lowOf v) bw bh ≡ 0 = sym (answer-is v bw bh) ∙ e in
-    rw (map-is v bw bh a) (fields (lowOf v) bw bh a)
+pub map-fields : (v : ℕ) (f : Footprint) → paramsOf v f .answer ≡ 0 → Fields (paramsOf v f .map)
+map-fields v f e =
+    let a : answer (lowOf v) f ≡ 0 = sym (answer-is v f) ∙ e in
+    rw (map-is v f a) (fields (lowOf v) f a)
 
 -- its endpoints' range is the widest that has room
-pub map-range : (v bw bh : ℕ) → paramsOf v bw bh .answer ≡ 0 → Widest 20 (paramsOf v bw bh .config .values) (used (paramsOf v bw bh .config)) (paramsOf v bw bh .range)
+pub map-range : (v : ℕ) (f : Footprint) → paramsOf v f .answer ≡ 0 → Widest 20 (paramsOf v f .config .values) (used (paramsOf v f .config)) (paramsOf v f .range)
 unfolding legal
-map-range v bw bh e =
-    let a : answer (lowOf v) bw bh ≡ 0 = sym (answer-is v bw bh) ∙ e in
-    rw (legal-is v bw bh a) (range-is (lowOf v) bw bh a)
+map-range v f e =
+    let a : answer (lowOf v) f ≡ 0 = sym (answer-is v f) ∙ e in
+    rw (legal-is v f a) (range-is (lowOf v) f a)
 
-local-low : (v w bw bh : ℕ) → paramsOf v bw bh .answer ≡ 0 → SameMapped (paramsOf v bw bh .map) v w → lowOf v ≡ lowOf w
-local-low v w bw bh e s =
-    let a : answer (lowOf v) bw bh ≡ 0 = sym (answer-is v bw bh) ∙ e in
-    let s′ : SameMapped (mapOf (configOf (lowOf v))) v w = rw (map-is v bw bh a) at s in
+local-low : (v w : ℕ) (f : Footprint) → paramsOf v f .answer ≡ 0 → SameMapped (paramsOf v f .map) v w → lowOf v ≡ lowOf w
+local-low v w f e s =
+    let a : answer (lowOf v) f ≡ 0 = sym (answer-is v f) ∙ e in
+    let s′ : SameMapped (mapOf (configOf (lowOf v))) v w = rw (map-is v f a) at s in
     low-same v w (rw (low-is (lowOf v)) at (s′ .low))
 
 -- a block that has the same mapped bits has the same answer, parameters and map
-pub local : (v w bw bh : ℕ) → paramsOf v bw bh .answer ≡ 0 → SameMapped (paramsOf v bw bh .map) v w → paramsOf v bw bh ≡ paramsOf w bw bh
-local v w bw bh e s =
-    let a : answer (lowOf v) bw bh ≡ 0 = sym (answer-is v bw bh) ∙ e in
+pub local : (v w : ℕ) (f : Footprint) → paramsOf v f .answer ≡ 0 → SameMapped (paramsOf v f .map) v w → paramsOf v f ≡ paramsOf w f
+local v w f e s =
+    let a : answer (lowOf v) f ≡ 0 = sym (answer-is v f) ∙ e in
     let m = mapOf (configOf (lowOf v)) in
-    let s′ : SameMapped m v w = rw (map-is v bw bh a) at s in
-    let l : lowOf v ≡ lowOf w = local-low v w bw bh e s in
+    let s′ : SameMapped m v w = rw (map-is v f a) at s in
+    let l : lowOf v ≡ lowOf w = local-low v w f e s in
     let x : extraOf m v ≡ extraOf m w = same-bits v w (m .extraat) (m .extralen) (s′ .extra) in
-    legal-is v bw bh a
+    legal-is v f a
     ∙ ap (legal (lowOf v)) x
     ∙ ap (λ (c : ℕ). legal c (extraOf (mapOf (configOf c)) w)) l
-    ∙ sym (legal-is w bw bh (rw l at a))
+    ∙ sym (legal-is w f (rw l at a))
 
 -- ---- the same bit by bit
 abbrev pub Inside : ℕ → ℕ → ℕ → Type 0
@@ -352,15 +353,15 @@ abbrev pub Mapped : Map → ℕ → Type 0
 Mapped m k = Inside 0 (m .lowlen) k ⊎ (Inside (m .endat) (m .endlen) k ⊎ (Inside (m .extraat) (m .extralen) k ⊎ Inside (m .weightat) (m .weightlen) k))
 
 -- whatever stands at the unmapped bits, answer, parameters and map are the same, and so are the numbers of the fields
-pub record SameBlock (v w bw bh : ℕ) : Type 0 where
+pub record SameBlock (v w : ℕ) (f : Footprint) : Type 0 where
   pub low : lowOf v ≡ lowOf w
-  pub params : paramsOf v bw bh ≡ paramsOf w bw bh
-  pub ends : bitsAt v (paramsOf v bw bh .map .endat) (paramsOf v bw bh .map .endlen) ≡ bitsAt w (paramsOf v bw bh .map .endat) (paramsOf v bw bh .map .endlen)
-  pub weights : bitsAt v (paramsOf v bw bh .map .weightat) (paramsOf v bw bh .map .weightlen) ≡ bitsAt w (paramsOf v bw bh .map .weightat) (paramsOf v bw bh .map .weightlen)
+  pub params : paramsOf v f ≡ paramsOf w f
+  pub ends : bitsAt v (paramsOf v f .map .endat) (paramsOf v f .map .endlen) ≡ bitsAt w (paramsOf v f .map .endat) (paramsOf v f .map .endlen)
+  pub weights : bitsAt v (paramsOf v f .map .weightat) (paramsOf v f .map .weightlen) ≡ bitsAt w (paramsOf v f .map .weightat) (paramsOf v f .map .weightlen)
 
-pub unmapped : (v w bw bh : ℕ) → paramsOf v bw bh .answer ≡ 0 → ((k : ℕ) → Mapped (paramsOf v bw bh .map) k → bitsAt v k 1 ≡ bitsAt w k 1) → SameBlock v w bw bh
-unmapped v w bw bh e h =
-    let m = paramsOf v bw bh .map in
+pub unmapped : (v w : ℕ) (f : Footprint) → paramsOf v f .answer ≡ 0 → ((k : ℕ) → Mapped (paramsOf v f .map) k → bitsAt v k 1 ≡ bitsAt w k 1) → SameBlock v w f
+unmapped v w f e h =
+    let m = paramsOf v f .map in
     let s : SameMapped m v w = record {
       low = λ k a b. h k (inl (a, b));
       ends = λ k a b. h k (inr (inl (a, b)));
@@ -368,8 +369,8 @@ unmapped v w bw bh e h =
       weights = λ k a b. h k (inr (inr (inr (a, b))));
     } in
     record {
-      low = local-low v w bw bh e s;
-      params = local v w bw bh e s;
+      low = local-low v w f e s;
+      params = local v w f e s;
       ends = same-bits v w (m .endat) (m .endlen) (s .ends);
       weights = same-bits v w (m .weightat) (m .weightlen) (s .weights);
     }
@@ -384,10 +385,10 @@ pub record Disjoint (m : Map) (k : ℕ) : Type 0 where
   pub extra-weights : Inside (m .extraat) (m .extralen) k → Inside (m .weightat) (m .weightlen) k → ⊥
   pub within : Mapped m k → k < 128
 
-pub disjoint : (v bw bh k : ℕ) → paramsOf v bw bh .answer ≡ 0 → Disjoint (paramsOf v bw bh .map) k
-disjoint v bw bh k e =
-    let m = paramsOf v bw bh .map in
-    let f : Fields m = map-fields v bw bh e in
+pub disjoint : (v : ℕ) (f : Footprint) (k : ℕ) → paramsOf v f .answer ≡ 0 → Disjoint (paramsOf v f .map) k
+disjoint v f k e =
+    let m = paramsOf v f .map in
+    let t : Fields m = map-fields v f e in
     record {
       low-ends = λ a b. omega arith;
       low-extra = λ a b. omega arith;

@@ -1,5 +1,6 @@
 // The parameters of a block: its answer, its grid, its endpoint modes, its map.
 use bits::Block;
+use footprint::Footprint;
 ghost use mathlib.Core.Path.{_≡_};
 ghost use mathlib.Core.Bool.{true, false};
 ghost use Prim.Native.Nat.{_+_, _-_, _*_, _≤_, _<_};
@@ -8,7 +9,7 @@ ghost use Rattle.sequence.specs.Ranges.{topOf};
 ghost use Rattle.params.specs.Ranges.{cost, widest};
 ghost use Rattle.params.specs.Widest.{Roomy, inverseOf, wholeBits};
 ghost use Rattle.params.specs.Config.{isVoid, isReserved, gridLow, gridHigh, gridOf, weightR, weightH, weightD, lacksDH, partsOf, numberOf, modeBase, classOf, restOf, valuesTo, confLen, modeBits, configOf};
-ghost use Rattle.params.specs.Blocks.{listed, oneOf2, endVerdict, verdict, answer, used, extraLen, lowOf, endRange, mapOf, modeAt, channelOf, upperOf, legal, noMap, refused, paramsOf, judgedOf, extraOf};
+ghost use Rattle.params.specs.Blocks.{endVerdict, verdict, answer, used, extraLen, lowOf, endRange, mapOf, modeAt, channelOf, upperOf, legal, noMap, refused, paramsOf, judgedOf, extraOf};
 ghost use Rattle.params.specs.Bounds.{Small};
 
 pub struct Grid {
@@ -337,78 +338,41 @@ fn judge_ends(k: Config) -> usize
     ensures { λ r. ⌜ r ≡ endVerdict k ⌝ }
 {
     if 18 < k.values {
-        return 15;
+        return answers::TOO_MANY_VALUES;
     }
     if 128 < (13 * k.values + 4) / 5 + used_bits(k) {
-        return 16;
+        return answers::TOO_LITTLE_ROOM;
     }
     0
 }
 
 // Rules 11 to 16.
-fn judge(k: Config, bw: usize, bh: usize) -> usize
+fn judge(k: Config, f: Footprint) -> usize
     requires { ⌜ Small k ⌝ }
-    ensures { λ r. ⌜ r ≡ verdict k bw bh ⌝ }
+    ensures { λ r. ⌜ r ≡ verdict k f ⌝ }
 {
-    if bw < k.width {
-        return 11;
+    if f.width < k.width {
+        return answers::GRID_TOO_LARGE;
     }
-    if bh < k.height {
-        return 11;
+    if f.height < k.height {
+        return answers::GRID_TOO_LARGE;
     }
     if 64 < k.width * k.height * k.planes {
-        return 12;
+        return answers::TOO_MANY_WEIGHTS;
     }
     if k.weightlen < 24 {
-        return 13;
+        return answers::WEIGHT_BITS;
     }
     if 96 < k.weightlen {
-        return 13;
+        return answers::WEIGHT_BITS;
     }
     if k.planes == 2 {
         if k.parts == 4 {
-            return 14;
+            return answers::DUAL_PLANE_OF_FOUR;
         }
         return judge_ends(k);
     }
     judge_ends(k)
-}
-
-fn either(h: usize, a: usize, b: usize) -> bool
-    ensures { λ r. ⌜ r ≡ oneOf2 h a b ⌝ }
-{
-    if h == a { true } else { h == b }
-}
-
-// Whether a footprint is one of the fourteen.
-pub fn is_listed(w: usize, h: usize) -> bool
-    ensures { λ r. ⌜ r ≡ listed w h ⌝ }
-{
-    if w == 4 {
-        return h == 4;
-    }
-    if w == 5 {
-        return either(h, 4, 5);
-    }
-    if w == 6 {
-        return either(h, 5, 6);
-    }
-    if w == 8 {
-        if either(h, 5, 6) {
-            return true;
-        }
-        return h == 8;
-    }
-    if w == 10 {
-        if either(h, 5, 6) {
-            return true;
-        }
-        return either(h, 8, 10);
-    }
-    if w == 12 {
-        return either(h, 10, 12);
-    }
-    false
 }
 
 // 65536 / n, rounded up, by which a division of a room by n is a product.
@@ -593,19 +557,19 @@ fn refuse(answer: usize) -> Params
     }
 }
 
-// The parameters of the block b at the footprint bw x bh.
-pub fn decode_block_params(b: Block, bw: usize, bh: usize) -> Params
-    ensures { λ r. ⌜ r ≡ paramsOf (valueOf b) bw bh ⌝ }
+// The parameters of the block b at the footprint f.
+pub fn decode_block_params(b: Block, f: Footprint) -> Params
+    ensures { λ r. ⌜ r ≡ paramsOf (valueOf b) f ⌝ }
 {
     if is_void(b) {
-        return refuse(1);
+        return refuse(answers::VOID_EXTENT);
     }
     let c = low_config(b);
     if is_reserved(c) {
-        return refuse(10);
+        return refuse(answers::RESERVED_MODE);
     }
     let k = read_config(c);
-    let a = judge(k, bw, bh);
+    let a = judge(k, f);
     if a == 0 { accept(b, c, k) } else { refuse(a) }
 }
 
@@ -631,17 +595,17 @@ fn refuse_map(answer: usize) -> Judged
 
 // The answer and the map alone of the block b. The decoder, which needs the rest as well, has decode_block_params to itself: it is then
 // compiled into the decoder, and what nobody reads there is not worked out.
-pub fn decode_block_map(b: Block, bw: usize, bh: usize) -> Judged
-    ensures { λ r. ⌜ r ≡ judgedOf (paramsOf (valueOf b) bw bh) ⌝ }
+pub fn decode_block_map(b: Block, f: Footprint) -> Judged
+    ensures { λ r. ⌜ r ≡ judgedOf (paramsOf (valueOf b) f) ⌝ }
 {
     if is_void(b) {
-        return refuse_map(1);
+        return refuse_map(answers::VOID_EXTENT);
     }
     let c = low_config(b);
     if is_reserved(c) {
-        return refuse_map(10);
+        return refuse_map(answers::RESERVED_MODE);
     }
     let k = read_config(c);
-    let a = judge(k, bw, bh);
+    let a = judge(k, f);
     if a == 0 { accept_map(k) } else { refuse_map(a) }
 }

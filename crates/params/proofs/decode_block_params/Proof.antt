@@ -1,5 +1,6 @@
 -- `params::decode_block_params` meets its contract: a law for each way out, in the order of the checks. Assumes nothing.
 use Rattle.params.specs.Laws.{out-void, out-reserved, small-of, used-of, roomy-of, out-legal, out-rule}
+use mathlib.Core.Path.{sym, _∙_}
 use borrow.Author.Needs.{needs}
 use Rattle.params.proofs.decode_block_params.Statement.{statement}
 use Rattle.params.proofs.decode_block_params.Tie as tie
@@ -26,7 +27,7 @@ returns-2 : tie.Need-returns-2
 returns-2 c = search out-reserved
 
 read-config-requires : tie.Need-read-config-requires
-read-config-requires c κs = cc
+read-config-requires c κs = sym (c .before .is-reserved .ensures) ∙ c .if2 .left
 
 judge-requires : tie.Need-judge-requires
 judge-requires c κs = search small-of
