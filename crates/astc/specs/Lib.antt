@@ -1,3 +1,2 @@
 pub mod Surface
 pub mod SurfaceLaws
-pub mod Tight

@@ -1,10 +1,3 @@
 pub mod Block
-pub mod Facts
-pub mod Parts
+pub mod OutcomeLaws
 pub mod Entry
-pub mod MapLaws
-pub mod Demands
-pub mod DemandLaws
-pub mod Kinds
-pub mod Values
-pub mod Tight

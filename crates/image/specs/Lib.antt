@@ -1,9 +1,2 @@
 pub mod Image
-pub mod Places
-pub mod MarkLaws
-pub mod Given
-pub mod ImageLaws
-pub mod BlockLaws
 pub mod StepLaws
-pub mod Steps
-pub mod Tight

@@ -49,9 +49,9 @@ pub fn fill(word: u32, out: &mut [u32], to: usize, n: usize)
     requires { ⌜ to + n ≤ length (now out) ⌝ }
     ensures { λ _. ⌜ now (out .exit) ≡ putAt (λ (i : ℕ). word) to n (now (out .entry)) ⌝ }
 {
-    let mut i = 0;
-    while i < n {
-        out[to + i] = word;
-        i += 1;
+    let mut k = 0;
+    while k < n {
+        out[to + k] = word;
+        k += 1;
     }
 }

@@ -1,4 +1,5 @@
 // Counts, and a line of text that is laid out piece by piece: bytes, and numbers in decimal.
+use libc::STDOUT_FILENO;
 ghost use mathlib.Core.Path.{_≡_};
 ghost use mathlib.Core.Bool.{cond};
 ghost use Prim.Native.Nat.{_+_, _≤_};
@@ -54,4 +55,15 @@ pub fn lay_out_count(line: &mut [u8], label: &[u8], count: usize) -> usize
     let start = put_text(line, 0, label);
     let after = put_number(line, start, count as u64);
     put_text(line, after, b"\n")
+}
+
+// Writes a line of a label and a count to the output, and gives its length.
+pub fn print_count(label: &[u8], count: usize) -> usize
+    requires { ⌜ length (now label) ≤ 43 ⌝ }
+    ensures { λ r. ⌜ r ≡ length (countLine (now (label .entry)) count) ⌝ }
+{
+    let mut line = [0u8; 64];
+    let end = lay_out_count(&mut line, label, count);
+    io::write_all(STDOUT_FILENO, &line[..end]);
+    end
 }

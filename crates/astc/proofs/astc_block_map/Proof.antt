@@ -1,54 +1,7 @@
--- Each way out is a law of SurfaceLaws; the map's numbers are small.
-use Rattle.block.specs.MapLaws.{map-small}
-use Rattle.astc.specs.SurfaceLaws.{refused, no-room, written}
+-- `astc::astc_block_map`: the answer fits in 32 bits. Assumes nothing.
+use Rattle.astc_numbers.specs.NumberLaws.{map-answer-small}
 use Prim.Native.Nat.{_<_}
 use native.Mathlib.Omega.{arith}
 use borrow.Author.Needs.{needs}
 use Rattle.astc.proofs.astc_block_map.Statement.{statement}
 use Rattle.astc.proofs.astc_block_map.Tie as tie
-
-block-map-requires : tie.Need-block-map-requires
-block-map-requires c κs = search needs
-
-cast-result : tie.Need-cast-result
-cast-result c =
-    let m = c .before .before .before .block-map in
-    let l : m .result .answer < 23 = rw (m .ensures) (map-small _ _ _ .answer) in
-    omega (arith, l)
-
-returns : tie.Need-returns
-returns c = refused _ _ (c .before .before .before .block-map .ensures) _ (c .before .if1 .taken)
-
-returns-2 : tie.Need-returns-2
-returns-2 c = no-room _ _ (c .before .before .before .block-map .ensures) _ (c .before .if1 .left) (c .if2 .taken)
-
-numbers-of-requires : tie.Need-numbers-of-requires
-numbers-of-requires c κs = rw (c .before .before .before .block-map .ensures) (map-small _ _ _)
-
-put-numbers-requires : tie.Need-put-numbers-requires
-put-numbers-requires c κs = search needs
-
-cast-result-2 : tie.Need-cast-result-2
-cast-result-2 c = search needs
-
-same-length : tie.Need-same-length
-same-length c = search needs
-
-returns-3 : tie.Need-returns-3
-returns-3 c =
-    let s = c .before .before .before .before .before .before in
-    written _ _ (s .before .before .before .before .block-map .ensures) _ _ _ (s .before .before .if1 .left) (s .before .if2 .left) (s .numbers-of .ensures) (c .before .before .before .put-numbers .ensures)
-
-pub astc-block-map-spec : {M : Type 1} → statement M
-astc-block-map-spec =
-    tie.close
-    (tie.spec
-    block-map-requires
-    cast-result
-    returns
-    returns-2
-    numbers-of-requires
-    put-numbers-requires
-    cast-result-2
-    same-length
-    returns-3)

@@ -1,5 +1,5 @@
--- The answer fits in 32 bits.
-use Rattle.block.specs.Entry.{answer-small}
+-- `astc::astc_decode_block`: the answer fits in 32 bits. Assumes nothing.
+use Rattle.block_map.specs.AnswerLaws.{answer-small}
 use Prim.Native.Nat.{_<_}
 use native.Mathlib.Omega.{arith}
 use borrow.Author.Needs.{needs}
@@ -10,7 +10,7 @@ decode-astc-block-requires : tie.Need-decode-astc-block-requires
 decode-astc-block-requires c κs = search needs
 
 cast-result : tie.Need-cast-result
-cast-result c = let d = c .before .before .decode-astc-block in let l : d .result < 23 = rw (d .ensures .0) (answer-small _ _ _ _) in omega (arith, l)
+cast-result c = let d = c .before .before .decode-astc-block in let l : d .result < 23 = rw (d .ensures .0) (answer-small _ _ _) in omega (arith, l)
 
 same-length : tie.Need-same-length
 same-length c = search needs

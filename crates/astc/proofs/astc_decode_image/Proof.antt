@@ -1,5 +1,5 @@
--- The answer fits in 32 bits.
-use Rattle.image.specs.ImageLaws.{refusal-small}
+-- `astc::astc_decode_image`: the answer fits in 32 bits. Assumes nothing.
+use Rattle.image_shape.specs.ShapeLaws.{refusal-small}
 use Prim.Native.Nat.{_<_}
 use native.Mathlib.Omega.{arith}
 use borrow.Author.Needs.{needs}

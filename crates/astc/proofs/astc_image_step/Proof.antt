@@ -1,5 +1,5 @@
--- Each way out is a law of SurfaceLaws.
-use Rattle.image.specs.ImageLaws.{refusal-small}
+-- `astc::astc_image_step`: each way out is a law of SurfaceLaws. Assumes nothing.
+use Rattle.image_shape.specs.ShapeLaws.{refusal-small}
 use Rattle.image.specs.StepLaws.{step-small}
 use Rattle.astc.specs.SurfaceLaws.{no-places, image-refused, stepped-on}
 use Prim.Native.Nat.{_<_}

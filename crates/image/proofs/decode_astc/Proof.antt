@@ -1,5 +1,6 @@
--- Refused, or painted whole.
-use Rattle.image.specs.ImageLaws.{accepted, sized-sides, image-refused, image-painted}
+-- `image::decode_astc` is refused, or paints all blocks. Assumes nothing.
+use Rattle.image_shape.specs.ShapeLaws.{accepted, sized-bounded}
+use Rattle.image.specs.StepLaws.{image-refused, image-painted}
 use native.Mathlib.Omega.{arith}
 use mathlib.Core.Path.{sym, _∙_}
 use borrow.Author.Needs.{needs}
@@ -13,7 +14,7 @@ returns : tie.Need-returns
 returns c = (c .before .refusal .ensures, image-refused _ _ _ _ (c .before .refusal .ensures) (c .if1 .taken))
 
 total-requires : tie.Need-total-requires
-total-requires c κs = sized-sides _ _ _ (accepted _ _ _ (sym (c .before .refusal .ensures) ∙ c .if1 .left))
+total-requires c κs = sized-bounded _ _ _ (accepted _ _ _ (sym (c .before .refusal .ensures) ∙ c .if1 .left))
 
 paint-blocks-requires : tie.Need-paint-blocks-requires
 paint-blocks-requires c κs = (accepted _ _ _ (sym (c .before .before .before .refusal .ensures) ∙ c .before .before .if1 .left), (omega arith, omega (arith, c .before .total .ensures .0)))

@@ -1,4 +1,4 @@
--- `lanes::fill` meets its contract by its loop: before turn i the first i places have the word. Assumes nothing.
+-- `lanes::fill` meets its contract by its loop: before turn k the first k places have the word. Assumes nothing.
 use lib.ListN.{length}
 use Rattle.laws.specs.Lists.{putAt, putAt-none, putAt-turn, putAt-end, length-putAt}
 use Prim.Native.Nat.{ℕ, _-_, _≤_}
@@ -8,10 +8,10 @@ use Rattle.lanes.proofs.fill.Statement.{statement}
 use Rattle.lanes.proofs.fill.Tie as tie
 
 abbrev Inv-loop : tie.InvT-loop
-Inv-loop word out₀ to n i₀ out i = (i ≤ n) × (out ≡ putAt (λ (k : ℕ). word) to i out₀)
+Inv-loop word out₀ to n k₀ out k = (k ≤ n) × (out ≡ putAt (λ (i : ℕ). word) to k out₀)
 
 abbrev μ-loop : tie.MeasureT-loop
-μ-loop word out₀ to n i₀ out i = n - i
+μ-loop word out₀ to n k₀ out k = n - k
 
 loop-holds : tie.Need-loop-holds Inv-loop μ-loop
 loop-holds c = (omega arith, putAt-none _ (c .args .to) _)
@@ -26,17 +26,17 @@ slice-write-out : tie.Need-slice-write-out Inv-loop μ-loop
 slice-write-out c =
     let l = c .before .loop in
     let a = c .before .before .args in
-    let e : length (l .out) ≡ length (a .out .now) = ap length (l .inv .1) ∙ length-putAt _ (a .to) (l .i) (a .out .now) in
+    let e : length (l .out) ≡ length (a .out .now) = ap length (l .inv .1) ∙ length-putAt _ (a .to) (l .k) (a .out .now) in
     omega (arith, e)
 
-add-i : tie.Need-add-i Inv-loop μ-loop
-add-i c = omega arith
+add-k : tie.Need-add-k Inv-loop μ-loop
+add-k c = omega arith
 
 loop-less : tie.Need-loop-less Inv-loop μ-loop
 loop-less c = omega arith
 
 loop-again : tie.Need-loop-again Inv-loop μ-loop
-loop-again c = let l = c .before .loop in (omega arith, putAt-turn _ _ (l .i) _ _ (l .out) (l .inv .1) refl)
+loop-again c = let l = c .before .loop in (omega arith, putAt-turn _ _ (l .k) _ _ (l .out) (l .inv .1) refl)
 
 same-length : tie.Need-same-length Inv-loop μ-loop
 same-length c = ap length (c .before .loop .inv .1) ∙ length-putAt _ _ _ _
@@ -47,4 +47,4 @@ returns c = putAt-end _ _ _ _ _ _ (c .before .loop .inv .1) (omega arith) (omega
 pub fill-spec : {M : Type 1} → statement M
 fill-spec =
     tie.close
-    (tie.spec Inv-loop μ-loop loop-holds add-out mul-out slice-write-out add-i loop-less loop-again same-length returns)
+    (tie.spec Inv-loop μ-loop loop-holds add-out mul-out slice-write-out add-k loop-less loop-again same-length returns)

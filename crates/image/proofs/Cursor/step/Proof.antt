@@ -1,5 +1,5 @@
--- Each way out is a law of StepLaws.
-use Rattle.image.specs.ImageLaws.{accepted, sized-sides}
+-- `image::Cursor::step`: each way out is a law of StepLaws. Assumes nothing.
+use Rattle.image_shape.specs.ShapeLaws.{accepted, sized-bounded}
 use Rattle.image.specs.StepLaws.{step-refused, step-none, step-past, step-painted}
 use native.Mathlib.Omega.{arith}
 use mathlib.Core.Path.{sym, _∙_}
@@ -23,7 +23,7 @@ returns-2 : tie.Need-returns-2
 returns-2 c = step-none _ _ _ _ _ (c .before .before .before .refusal .ensures) (c .before .before .if1 .left) _ (c .before .if2 .taken) (c .refused2 .ensures)
 
 total-requires : tie.Need-total-requires
-total-requires c κs = sized-sides _ _ _ (accepted _ _ _ (sym (c .before .before .refusal .ensures) ∙ c .before .if1 .left))
+total-requires c κs = sized-bounded _ _ _ (accepted _ _ _ (sym (c .before .before .refusal .ensures) ∙ c .before .if1 .left))
 
 refused-requires-3 : tie.Need-refused-requires-3
 refused-requires-3 c κs = search needs

@@ -1,0 +1,64 @@
+// What C reads beside words: the map of a block as nine numbers, and where a step led as three.
+ghost use mathlib.Core.Path.{_≡_};
+ghost use Prim.Native.Nat.{ℕ, _≤_};
+ghost use lib.ListN.{getD, length};
+ghost use Rattle.laws.specs.Lists.{put};
+ghost use Rattle.block_map.specs.Answer.{blockMap};
+ghost use Rattle.block_map.specs.MapLaws.{Small};
+ghost use Rattle.astc_numbers.specs.Numbers.{numbersOf, mapAnswerIn, mapIn, ledTo};
+use block_map::BlockMap;
+use footprint::Footprint;
+
+fn numbers_of(m: BlockMap) -> [u32; 9]
+    requires { ⌜ Small m ⌝ }
+    ensures { λ r. ⌜ r ≡ numbersOf m ⌝ }
+{
+    [
+        m.top as u32,
+        m.lowat as u32,
+        m.lowlen as u32,
+        m.endat as u32,
+        m.endlen as u32,
+        m.extraat as u32,
+        m.extralen as u32,
+        m.weightat as u32,
+        m.weightlen as u32,
+    ]
+}
+
+fn put_numbers(out: &mut [u32], n: &[u32; 9])
+    requires { ⌜ 9 ≤ length (now out) ⌝ }
+    ensures { λ _. ⌜ now (out .exit) ≡ put (λ (k : ℕ). getD (now (n .entry)) k 0) 0 9 (now (out .entry)) ⌝ }
+{
+    let mut i = 0;
+    while i < 9 {
+        out[i] = n[i];
+        i += 1;
+    }
+}
+
+// Puts the map of a block into the first nine places of `map`, and gives the answer.
+pub fn put_map(block: &[u8], f: Footprint, map: &mut [u32]) -> usize
+    ensures { λ a. ⌜ (a ≡ mapAnswerIn (blockMap (now (block .entry)) f) (length (now (map .entry)))) × (now (map .exit) ≡ mapIn (blockMap (now (block .entry)) f) (now (map .entry))) ⌝ }
+{
+    let m = block_map::block_map(block, f);
+    if m.answer >= answers::BLOCK_LENGTH {
+        return m.answer;
+    }
+    if map.len() < 9 {
+        return answers::OUTPUT_TOO_SHORT;
+    }
+    let n = numbers_of(m);
+    put_numbers(map, &n);
+    m.answer
+}
+
+// Puts a step's next block, the blocks painted and those of them that break a rule into the first three places of `moved`.
+pub fn put_led(moved: &mut [u64], next: usize, painted: usize, bad: usize)
+    requires { ⌜ 3 ≤ length (now moved) ⌝ }
+    ensures { λ _. ⌜ now (moved .exit) ≡ put (λ (k : ℕ). getD (ledTo next painted bad) k 0) 0 3 (now (moved .entry)) ⌝ }
+{
+    moved[0] = next as u64;
+    moved[1] = painted as u64;
+    moved[2] = bad as u64;
+}

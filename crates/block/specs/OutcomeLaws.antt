@@ -1,0 +1,77 @@
+-- What a block's decoding comes to, by its kind: all that callers need to know of it.
+-- Assumes nothing.
+use mathlib.Core.Path.{_≡_, refl, sym, ap, _∙_}
+use mathlib.Core.Bool.{Bool, true, false, cond}
+use mathlib.Core.List.{List}
+use Prim.Native.Nat.{ℕ, _*_, _≤_, _<_}
+use lib.Dec.{eqb}
+use lib.ListN.{length}
+use borrow.Author.Tests.{eq-eqb, ne-eqb}
+use Rattle.laws.specs.Lists.{put, length-put}
+use Rattle.bits.specs.Bits.{bytes}
+use Rattle.footprint.specs.Footprints.{texelsOf, mostTexels, listed}
+use Rattle.footprint.specs.Sides.{sides-of}
+use Rattle.footprint.specs.declared.Footprint.{Footprint}
+use Rattle.lanes.specs.Lanes.{mostLanes, laneAt, joinedAt, eights}
+use Rattle.lanes.specs.LaneLaws.{joined-is}
+use Rattle.params.specs.Blocks.{lowOf, paramsOf}
+use Rattle.params.specs.Config.{isVoid}
+use Rattle.params.specs.Laws.{answer-is, answer-1, void-low, void-alone}
+use Rattle.block_void.specs.Void.{voidWord}
+use Rattle.block_ordinary.specs.Ordinary.{ordinaryWord, lanesOf}
+use Rattle.block_map.specs.Answer.{mapAnswer}
+use Rattle.block_map.specs.AnswerLaws.{map-answer}
+use Rattle.block.specs.Block.{magenta, colourOf, wordOfParams, blockWord, wordAt, outcomeOf, lanesIn}
+use Rattle.block.specs.declared.Outcome.{Outcome}
+
+-- ---- what callers cite
+module _ (s : List ℕ) (foot : Footprint) where
+  pub outcome-answer : length s ≡ 16 → listed foot ≡ true → outcomeOf s foot .answer ≡ mapAnswer s foot
+  unfolding outcomeOf
+  outcome-answer h l = sym (map-answer s foot h l)
+
+  -- a block that is not legal has one word
+  pub word-one : (t : ℕ) → (outcomeOf s foot .answer ≡ 0 → ⊥) → outcomeOf s foot .word ≡ wordAt s foot t
+  unfolding outcomeOf wordAt blockWord wordOfParams
+  word-one t n = rw (ne-eqb (paramsOf (bytes 16 s) foot .answer) 0 n)
+
+  -- a legal one has its words in its lanes
+  pub word-legal : listed foot ≡ true → (before lanes : List ℕ) (t : ℕ) → length before ≡ mostLanes → lanes ≡ lanesIn s foot before → outcomeOf s foot .answer ≡ 0
+      → t < texelsOf foot → joinedAt lanes t ≡ wordAt s foot t
+  unfolding outcomeOf wordAt blockWord wordOfParams lanesIn lanesOf
+  word-legal l before lanes t n e z h =
+      let p = paramsOf (bytes 16 s) foot in
+      let d : lanes ≡ put (laneAt (ordinaryWord p (bytes 16 s) foot)) 0 (2 * eights (texelsOf foot)) before = e ∙ rw (eq-eqb (p .answer) 0 z) in
+      rw (d, eq-eqb (p .answer) 0 z) (joined-is (ordinaryWord p (bytes 16 s) foot) (texelsOf foot) t before n (sides-of foot l .texels) h)
+
+  pub lanes-length : (before lanes : List ℕ) → lanes ≡ lanesIn s foot before → length lanes ≡ length before
+  unfolding lanesIn lanesOf
+  lanes-length before lanes e = ap length e ∙ go (eqb (paramsOf (bytes 16 s) foot .answer) 0)
+    where
+      go : (t : Bool) → length (cond t (put (laneAt (ordinaryWord (paramsOf (bytes 16 s) foot) (bytes 16 s) foot)) 0 (2 * eights (texelsOf foot)) before) before) ≡ length before
+      go true = length-put _ 0 (2 * eights (texelsOf foot)) before
+      go false = refl
+
+-- ---- the three ways out of the decoding
+module _ (s : List ℕ) (foot : Footprint) (v : ℕ) (ev : v ≡ bytes 16 s) where
+  abbrev Ends : Outcome → List ℕ → List ℕ → Type 0
+  Ends r before lanes = (r ≡ outcomeOf s foot) × (lanes ≡ lanesIn s foot before)
+
+  answer-void : isVoid v ≡ true → paramsOf v foot .answer ≡ 1
+  answer-void h = answer-is v foot ∙ answer-1 (lowOf v) foot (void-low v ∙ h)
+
+  pub ends-void : (w : ℕ) (lanes : List ℕ) → isVoid v ≡ true → w ≡ voidWord v → Ends (record { answer = 1; word = w }) lanes lanes
+  unfolding outcomeOf colourOf lanesIn lanesOf
+  ends-void w lanes h e = let a = answer-void h in rw (← ev, a, e) (refl, refl)
+
+  pub ends-legal : (a : ℕ) (before lanes : List ℕ) → a ≡ 0 → (a ≡ paramsOf v foot .answer) × (lanes ≡ lanesOf v foot before) → Ends (record { answer = a; word = 0 }) before lanes
+  unfolding outcomeOf lanesIn
+  ends-legal a before lanes z d =
+      let p : paramsOf v foot .answer ≡ 0 = sym (d .0) ∙ z in
+      rw (← ev, p, z) (refl, d .1)
+
+  pub ends-refused : (a : ℕ) (before lanes : List ℕ) → isVoid v ≡ false → (a ≡ 0 → ⊥) → (a ≡ paramsOf v foot .answer) × (lanes ≡ lanesOf v foot before)
+      → Ends (record { answer = a; word = magenta }) before lanes
+  unfolding outcomeOf colourOf lanesIn
+  ends-refused a before lanes h n d =
+      rw (← ev, ← (d .0), ne-eqb a 0 n, ne-eqb a 1 (λ z. void-alone v foot h (sym (d .0) ∙ z))) (refl, d .1)

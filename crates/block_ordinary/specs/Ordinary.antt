@@ -1,0 +1,63 @@
+-- The words of an ordinary block's texels. v is the block's number of 128 bits, read by whole fields alone: the low configuration, the extra
+-- field, the endpoints and the weights.
+-- Assumes nothing.
+use mathlib.Core.Bool.{cond}
+use mathlib.Core.List.{List}
+use Prim.Native.Nat.{ℕ, _*_}
+use lib.Dec.{eqb}
+use lib.ListN.{replicate}
+use Rattle.laws.specs.Lists.{put}
+use Rattle.bits.specs.Bits.{bitsAt, reversed}
+use Rattle.sequence_ranges.specs.Ranges.{rangeOf}
+use Rattle.sequence_values.specs.Sequence.{valuesOf}
+use Rattle.footprint.specs.Footprints.{texelsOf, mostTexels}
+use Rattle.footprint.specs.declared.Footprint.{Footprint}
+use Rattle.lanes.specs.Lanes.{laneAt, eights}
+use Rattle.params.specs.Blocks.{paramsOf}
+use Rattle.params.specs.declared.Map.{Map}
+use Rattle.params.specs.declared.Params.{Params}
+use Rattle.endpoints_unquantise.specs.Unquantised.{endpointValues}
+use Rattle.endpoints.specs.Endpoints.{endpointsList}
+use Rattle.endpoints_colours.specs.declared.Endpoints.{Endpoints}
+use Rattle.weights.specs.Infill.{weightsOf}
+use Rattle.weights.specs.declared.Grid.{Grid}
+use Rattle.partition.specs.Partition.{partitionAt}
+use Rattle.texels.specs.Texels.{texelWord}
+
+-- ---- a legal block, of its parameters p and two more fields
+-- the endpoints of its partitions, from the endpoint field
+unfoldable pub endsOf : Params → ℕ → List Endpoints
+endsOf p field = endpointsList (p .config .parts) (p .modes) (endpointValues (p .range) (valuesOf (rangeOf (p .range)) field (p .config .values)))
+
+abbrev pub gridOf : Params → Footprint → Grid
+gridOf p foot = record { footprint = foot; width = p .config .width; height = p .config .height; planes = p .config .planes }
+
+abbrev pub countOf : Params → ℕ
+countOf p = p .config .width * p .config .height * p .config .planes
+
+-- the weights of its texels, from the weight field, which is read from its top bit downwards
+unfoldable pub weightsIn : Params → Footprint → ℕ → List ℕ
+weightsIn p foot field = weightsOf (gridOf p foot) (p .config .range) (valuesOf (rangeOf (p .config .range)) field (countOf p))
+
+-- the partition of each of its texels: the first where there is one alone
+unfoldable pub partitionsIn : Params → Footprint → List ℕ
+partitionsIn p foot =
+    cond (eqb (p .config .parts) 1) (replicate mostTexels 0) (put (partitionAt (p .number) (p .config .parts) foot) 0 (texelsOf foot) (replicate mostTexels 0))
+
+-- ---- the fields of the block v
+abbrev pub endsField : Map → ℕ → ℕ
+endsField m v = bitsAt v (m .endat) (m .endlen)
+
+abbrev pub weightsField : Map → ℕ → ℕ
+weightsField m v = bitsAt (reversed 128 v) 0 (m .weightlen)
+
+-- ---- the word of texel t
+unfoldable pub ordinaryWord : Params → ℕ → Footprint → ℕ → ℕ
+ordinaryWord p v foot t =
+    texelWord (endsOf p (endsField (p .map) v)) (weightsIn p foot (weightsField (p .map) v)) (partitionsIn p foot) (p .config .planes) (p .channel) t
+
+-- ---- the code's step: the lanes h with those of a legal block's words, to the next multiple of 8 texels
+unfoldable pub lanesOf : ℕ → Footprint → List ℕ → List ℕ
+lanesOf v foot h =
+    let p = paramsOf v foot in
+    cond (eqb (p .answer) 0) (put (laneAt (ordinaryWord p v foot)) 0 (2 * eights (texelsOf foot)) h) h

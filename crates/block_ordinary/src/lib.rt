@@ -1,0 +1,163 @@
+// A block that is not void: from its fields to the lanes of its texels.
+ghost use mathlib.Core.Path.{_≡_};
+ghost use mathlib.Core.Bool.{true};
+ghost use Prim.Native.Nat.{_*_};
+ghost use lib.ListN.{replicate};
+ghost use Rattle.laws.specs.Lists.{put};
+ghost use Rattle.bits.specs.Blocks.{valueOf};
+ghost use Rattle.bits_reversal.specs.Reversals.{reversals};
+ghost use Rattle.sequence_ranges.specs.Digits.{tritTable, quintTable};
+ghost use Rattle.footprint.specs.Footprints.{texelsOf, mostTexels, mostWeights, listed};
+ghost use Rattle.footprint.specs.Sides.{Sides};
+ghost use Rattle.lanes.specs.Lanes.{laneAt, eights};
+ghost use Rattle.params.specs.Blocks.{paramsOf};
+ghost use Rattle.weights.specs.Given.{Fits};
+ghost use Rattle.block_ordinary.specs.Ordinary.{endsOf, endsField, gridOf, weightsIn, weightsField, partitionsIn, ordinaryWord, lanesOf};
+ghost use Rattle.block_ordinary.specs.Facts.{Facts, Ready, Lent};
+use bits::Block;
+use endpoints_colours::Endpoints;
+use footprint::Footprint;
+use footprint::TEXELS;
+use footprint::WEIGHTS;
+use lanes::LANES;
+use params::Params;
+use weights::Grid;
+
+// The endpoints of a legal block's partitions.
+fn ends_of(t: &[u16; 256], q: &[u16; 128], b: Block, p: Params) -> [Endpoints; 4]
+    requires { ⌜ (now t ≡ tritTable) × ((now q ≡ quintTable) × (Facts p)) ⌝ }
+    ensures { λ r. ⌜ r ≡ endsOf p (endsField (p .map) (valueOf b)) ⌝ }
+{
+    let k = p.config;
+    let range = p.range;
+    let modes = p.modes;
+    let mut seq = [0u8; 72];
+    sequence::decode_intseq(
+        &mut seq,
+        t,
+        q,
+        b,
+        k.lowlen,
+        sequence_ranges::range_of(range),
+        k.values,
+    );
+    let mut ev = [0u8; 32];
+    endpoints_unquantise::unquantize(&mut ev, k.values, range, &seq);
+    endpoints::decode_endpoints(k.parts, modes, &ev)
+}
+
+// Puts the weights of a legal block's texels into out, which is all 0.
+fn weights_of(
+    out: &mut [u8; WEIGHTS],
+    rev: &[u8; 256],
+    t: &[u16; 256],
+    q: &[u16; 128],
+    b: Block,
+    p: Params,
+    f: Footprint,
+)
+    requires { ⌜ (now out ≡ replicate mostWeights 0) × ((Lent (now rev) (now t) (now q)) × (Ready p f)) ⌝ }
+    ensures { λ _. ⌜ now (out .exit) ≡ weightsIn p f (weightsField (p .map) (valueOf b)) ⌝ }
+{
+    let k = p.config;
+    let mut seq = [0u8; 72];
+    sequence::decode_intseq_reverse(
+        &mut seq,
+        rev,
+        t,
+        q,
+        b,
+        sequence_ranges::range_of(k.range),
+        k.width * k.height * k.planes,
+    );
+    let g = Grid {
+        footprint: f,
+        width: k.width,
+        height: k.height,
+        planes: k.planes,
+    };
+    weights::decode_weights(out, g, k.range, &seq);
+}
+
+// Puts the partition of each texel of a legal block into out, which is all 0.
+fn partition_of(out: &mut [u8; TEXELS], p: Params, f: Footprint)
+    requires { ⌜ (now out ≡ replicate mostTexels 0) × ((Facts p) × (Sides f)) ⌝ }
+    ensures { λ _. ⌜ now (out .exit) ≡ partitionsIn p f ⌝ }
+{
+    let k = p.config;
+    if k.parts == 1 {
+        return;
+    }
+    partition::select_partition(out, p.number as u32, k.parts, f);
+}
+
+// What is known of a legal ordinary block before its texels are painted.
+pub struct BlockData {
+    pub n: usize,
+    pub parts: usize,
+    pub planes: usize,
+    pub channel: usize,
+    pub endpoints: [Endpoints; 4],
+    pub weights: [u8; WEIGHTS],
+    pub partition: [u8; TEXELS],
+}
+
+// Paints the lanes of a legal block's words. Its record is made and filled here, where it is used: handed on by value it would be
+// copied.
+fn paint_ordinary(
+    rev: &[u8; 256],
+    t: &[u16; 256],
+    q: &[u16; 128],
+    b: Block,
+    p: Params,
+    f: Footprint,
+    lanes: &mut [u16; LANES],
+)
+    requires { ⌜ (Lent (now rev) (now t) (now q)) × (Ready p f) ⌝ }
+    ensures { λ _. ⌜ now (lanes .exit) ≡ put (laneAt (ordinaryWord p (valueOf b) f)) 0 (2 * eights (texelsOf f)) (now (lanes .entry)) ⌝ }
+{
+    let k = p.config;
+    let mut d = BlockData {
+        n: f.width * f.height,
+        parts: k.parts,
+        planes: k.planes,
+        channel: p.channel,
+        endpoints: ends_of(t, q, b, p),
+        weights: [0u8; WEIGHTS],
+        partition: [0u8; TEXELS],
+    };
+    weights_of(&mut d.weights, rev, t, q, b, p, f);
+    partition_of(&mut d.partition, p, f);
+    let ends = d.endpoints;
+    texels_paint::applicate_color(
+        lanes,
+        d.n,
+        d.parts,
+        d.planes,
+        d.channel,
+        ends,
+        &d.weights,
+        &d.partition,
+    );
+}
+
+// Puts the lanes of a legal block's words at a listed footprint, with lent tables; any other block puts none. It gives the answer.
+pub fn decode_ordinary(
+    rev: &[u8; 256],
+    t: &[u16; 256],
+    q: &[u16; 128],
+    b: Block,
+    f: Footprint,
+    lanes: &mut [u16; LANES],
+) -> usize
+    requires { ⌜ (Lent (now rev) (now t) (now q)) × (listed f ≡ true) ⌝ }
+    ensures { λ a. ⌜ (a ≡ paramsOf (valueOf b) f .answer) × (now (lanes .exit) ≡ lanesOf (valueOf b) f (now (lanes .entry))) ⌝ }
+{
+    let p = params::decode_block_params(b, f);
+    let a = p.answer;
+    if a == answers::LEGAL {
+        paint_ordinary(rev, t, q, b, p, f, lanes);
+        return answers::LEGAL;
+    }
+    a
+}

@@ -1,0 +1,94 @@
+-- Demand 3: a legal block never leaves its bounds, in the terms of the map that is reported. DemandLaws has the proof.
+-- Assumes nothing.
+use mathlib.Core.Path.{_≡_}
+use mathlib.Core.Bool.{cond}
+use mathlib.Core.List.{List, [], _∷_}
+use Prim.Native.Nat.{ℕ, _+_, _≤_, _<_}
+use lib.Dec.{eqb}
+use lib.ListN.{getD, length}
+use Rattle.bits.specs.Bits.{bitsAt, bytes}
+use Rattle.sequence_ranges.specs.Ranges.{topOf}
+use Rattle.params.specs.Ranges.{cost}
+use Rattle.params.specs.Blocks.{paramsOf}
+use Rattle.params.specs.declared.Params.{Params}
+use Rattle.endpoints_colours.specs.Colours.{nothing}
+use Rattle.endpoints_colours.specs.declared.Mark.{Mark}
+use Rattle.endpoints_colours.specs.declared.Mark.the-variants.{Ldr}
+use Rattle.endpoints_colours.specs.declared.Endpoints.{Endpoints}
+use Rattle.blend.specs.BlendLaws.{Within}
+use Rattle.footprint.specs.declared.Footprint.{Footprint}
+use Rattle.block_ordinary.specs.Ordinary.{endsOf, endsField, weightsIn, weightsField, partitionsIn}
+use Rattle.block_map.specs.Answer.{answerOf, blockMap}
+use Rattle.block_map.specs.declared.BlockMap.{BlockMap}
+use Rattle.block.specs.Block.{wordAt, paintedOf}
+
+-- ---- the fields of a map: 0 is the low configuration, 1 the endpoints, 2 the extra field, 3 the weights
+abbrev pub startOf : BlockMap → ℕ → ℕ
+startOf m i = getD (m .lowat ∷ m .endat ∷ m .extraat ∷ m .weightat ∷ []) i 0
+
+abbrev pub lengthOf : BlockMap → ℕ → ℕ
+lengthOf m i = getD (m .lowlen ∷ m .endlen ∷ m .extralen ∷ m .weightlen ∷ []) i 0
+
+-- bit k stands in field i
+abbrev pub In : BlockMap → ℕ → ℕ → Type 0
+In m i k = (startOf m i ≤ k) × (k < startOf m i + lengthOf m i)
+
+-- bit k of sixteen bytes
+abbrev pub bitOf : List ℕ → ℕ → ℕ
+bitOf s k = bitsAt (bytes 16 s) k 1
+
+-- ---- the endpoints' range: q, in which n values stand between the low configuration and the extra field, and no wider one does
+pub record WidestRange (m : BlockMap) (n q : ℕ) : Type 0 where
+  pub least : 4 ≤ q
+  pub most : q ≤ 20
+  pub top : m .top ≡ topOf q
+  pub length : m .endlen ≡ cost q n
+  pub fits : m .endat + cost q n ≤ m .extraat
+  pub widest : (r : ℕ) → q < r → r ≤ 20 → m .extraat < m .endat + cost r n
+
+-- ---- channels: 0 to 3 for red, green, blue and alpha
+-- of a word
+abbrev pub channelIn : ℕ → ℕ → ℕ
+channelIn w c = bitsAt w (getD (16 ∷ 8 ∷ 0 ∷ 24 ∷ []) c 0) 8
+
+-- of a pair of endpoints: how it is read, and its two ends
+abbrev pub markOf : Endpoints → ℕ → Mark
+markOf e c = cond (eqb c 3) (e .alpha) (e .color)
+
+abbrev pub firstOf : Endpoints → ℕ → ℕ
+firstOf e c = getD (e .r0 ∷ e .g0 ∷ e .b0 ∷ e .a0 ∷ []) c 0
+
+abbrev pub secondOf : Endpoints → ℕ → ℕ
+secondOf e c = getD (e .r1 ∷ e .g1 ∷ e .b1 ∷ e .a1 ∷ []) c 0
+
+-- ---- the parts of the block s
+abbrev pub params : List ℕ → Footprint → Params
+params s foot = paramsOf (bytes 16 s) foot
+
+abbrev pub infilled : List ℕ → Footprint → List ℕ
+infilled s foot = weightsIn (params s foot) foot (weightsField (params s foot .map) (bytes 16 s))
+
+-- the endpoints of the partition of texel t
+abbrev pub endsAt : List ℕ → Footprint → ℕ → Endpoints
+endsAt s foot t = getD (endsOf (params s foot) (endsField (params s foot .map) (bytes 16 s))) (getD (partitionsIn (params s foot) foot) t 0) nothing
+
+-- ---- what two blocks share at a footprint, whatever the room and the output
+pub record Same (s s′ : List ℕ) (foot : Footprint) : Type 0 where
+  pub answer : (room : ℕ) → answerOf s foot room ≡ answerOf s′ foot room
+  pub map : blockMap s foot ≡ blockMap s′ foot
+  pub words : (out : List ℕ) → paintedOf s foot out ≡ paintedOf s′ foot out
+
+-- ---- the demand
+pub record Bounded (s : List ℕ) (foot : Footprint) : Type 0 where
+  -- its fields lie within the 128 bits, and share no bit
+  pub within : (i k : ℕ) → In (blockMap s foot) i k → k < 128
+  pub disjoint : (i j k : ℕ) → In (blockMap s foot) i k → In (blockMap s foot) j k → i ≡ j
+  -- its endpoint range is the widest that fits
+  pub range : WidestRange (blockMap s foot) (params s foot .config .values) (params s foot .range)
+  -- infilled weights are in 0..64
+  pub weights : (i : ℕ) → getD (infilled s foot) i 0 ≤ 64
+  -- LDR channels lie between their endpoints
+  pub channels : (t c : ℕ) → c < 4 → markOf (endsAt s foot t) c ≡ Ldr
+      → Within (firstOf (endsAt s foot t) c) (secondOf (endsAt s foot t) c) (channelIn (wordAt s foot t) c)
+  -- no bit outside the map changes anything
+  pub local : (s′ : List ℕ) → length s′ ≡ 16 → ((i k : ℕ) → In (blockMap s foot) i k → bitOf s k ≡ bitOf s′ k) → Same s s′ foot

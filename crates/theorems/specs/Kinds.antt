@@ -1,0 +1,84 @@
+-- What is painted on every block that is void, reserved or breaks a rule, at a listed footprint with room.
+-- Assumes nothing.
+use mathlib.Core.Path.{_≡_, refl, _∙_}
+use mathlib.Core.Bool.{Bool, true, false, _||_}
+use mathlib.Core.List.{List}
+use mathlib.Core.Logic.{_⊎_, ⊎-elim}
+use Prim.Native.Nat.{ℕ, _*_, _≤_, _<_}
+use native.Mathlib.Omega.{arith}
+use lib.Dec.{eqb}
+use lib.ListN.{length}
+use borrow.Author.Tests.{eq-eqb, ne-eqb, lt-ltb, le-ltb}
+use Rattle.laws.specs.Lists.{put, put-same}
+use Rattle.bits.specs.Bits.{bitsAt, bytes}
+use Rattle.footprint.specs.Footprints.{texelsOf, listed}
+use Rattle.footprint.specs.declared.Footprint.{Footprint}
+use Rattle.params.specs.Blocks.{answer, lowOf, paramsOf}
+use Rattle.params.specs.Config.{isVoid, isReserved}
+use Rattle.params.specs.Laws.{answer-is, answer-1, answer-10, low-bits-are}
+use Rattle.block_void.specs.Void.{voidWord}
+use Rattle.block_map.specs.Answer.{answerOf}
+use Rattle.block.specs.Block.{magenta, colourOf, wordOfParams, blockWord, wordAt, paintedOf}
+
+-- ---- what is stated
+-- sixteen bytes at a listed footprint, with room
+pub record Accepted (s : List ℕ) (foot : Footprint) (places : ℕ) : Type 0 where
+  pub sixteen : length s ≡ 16
+  pub footprint : listed foot ≡ true
+  pub room : texelsOf foot ≤ places
+
+-- the answer a, and the word w at every texel
+pub record OneColour (s : List ℕ) (foot : Footprint) (out : List ℕ) (a w : ℕ) : Type 0 where
+  pub answer : answerOf s foot (length out) ≡ a
+  pub words : paintedOf s foot out ≡ put (λ (t : ℕ). w) 0 (texelsOf foot) out
+
+-- byte 0 is 0xFC and bit 8 is 1
+abbrev pub Void : ℕ → Type 0
+Void v = bitsAt v 0 9 ≡ 0x1fc
+
+-- bits 0 to 3 all 0, or bits 0 and 1 both 0 with bits 6, 7, 8 all 1
+abbrev pub Reserved : ℕ → Type 0
+Reserved v = (bitsAt v 0 4 ≡ 0) ⊎ ((bitsAt v 0 2 ≡ 0) × (bitsAt v 6 3 ≡ 7))
+
+void-is : (v : ℕ) → Void v → isVoid (lowOf v) ≡ true
+unfolding isVoid
+void-is v h = rw (low-bits-are v 0 9 (omega arith)) (eq-eqb (bitsAt v 0 9) 0x1fc h)
+
+not-void-is : (v : ℕ) → (Void v → ⊥) → isVoid (lowOf v) ≡ false
+unfolding isVoid
+not-void-is v h = rw (low-bits-are v 0 9 (omega arith)) (ne-eqb (bitsAt v 0 9) 0x1fc h)
+
+or-true : (b : Bool) → b || true ≡ true
+or-true true = refl
+or-true false = refl
+
+reserved-is : (v : ℕ) → Reserved v → isReserved (lowOf v) ≡ true
+unfolding isReserved
+reserved-is v r =
+    rw (low-bits-are v 0 4 (omega arith), low-bits-are v 0 2 (omega arith), low-bits-are v 6 3 (omega arith))
+    (⊎-elim (λ z. rw (eq-eqb (bitsAt v 0 4) 0 z)) (λ z. rw (eq-eqb (bitsAt v 0 2) 0 (z .0), eq-eqb (bitsAt v 6 3) 7 (z .1)) (or-true (eqb (bitsAt v 0 4) 0))) r)
+
+-- ---- one colour
+module _ (s : List ℕ) (foot : Footprint) (out : List ℕ) (h : Accepted s foot (length out)) where
+  answer-in : answerOf s foot (length out) ≡ paramsOf (bytes 16 s) foot .answer
+  unfolding answerOf
+  answer-in = rw (eq-eqb (length s) 16 (h .sixteen), h .footprint, le-ltb (length out) (texelsOf foot) (h .room))
+
+  one-colour : (a w : ℕ) → paramsOf (bytes 16 s) foot .answer ≡ a → a < 20 → ((t : ℕ) → wordAt s foot t ≡ w) → OneColour s foot out a w
+  unfolding paintedOf
+  one-colour a w e l p = record { answer = answer-in ∙ e; words = rw (answer-in, e, lt-ltb a 20 l) (put-same _ _ 0 (texelsOf foot) out (λ k x y. p k)) }
+
+  -- ---- the theorems
+  pub void-painted : Void (bytes 16 s) → OneColour s foot out 1 (voidWord (bytes 16 s))
+  unfolding wordAt blockWord wordOfParams colourOf
+  void-painted v =
+      let e : paramsOf (bytes 16 s) foot .answer ≡ 1 = answer-is (bytes 16 s) foot ∙ answer-1 (lowOf (bytes 16 s)) foot (void-is (bytes 16 s) v) in
+      one-colour 1 _ e (omega arith) (λ t. rw e)
+
+  pub refused-painted : (a : ℕ) → paramsOf (bytes 16 s) foot .answer ≡ a → 10 ≤ a → a < 20 → OneColour s foot out a magenta
+  unfolding wordAt blockWord wordOfParams colourOf
+  refused-painted a e l k = one-colour a magenta e k (λ t. rw (e, ne-eqb a 0 (λ z. omega arith), ne-eqb a 1 (λ z. omega arith)))
+
+  pub reserved-painted : Reserved (bytes 16 s) → (Void (bytes 16 s) → ⊥) → OneColour s foot out 10 magenta
+  reserved-painted r n =
+      refused-painted 10 (answer-is (bytes 16 s) foot ∙ answer-10 (lowOf (bytes 16 s)) foot (not-void-is (bytes 16 s) n) (reserved-is (bytes 16 s) r)) (omega arith) (omega arith)
