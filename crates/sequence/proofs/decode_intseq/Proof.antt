@@ -2,7 +2,7 @@
 use mathlib.Core.Path.{_≡_}
 use Rattle.bits.specs.Bits.{bitsAt}
 use Rattle.bits.specs.Blocks.{valueOf}
-use Rattle.sequence.specs.Sequence.{totalOf}
+use Rattle.sequence_ranges.specs.Ranges.{totalOf}
 use borrow.Author.Needs.{needs}
 use Rattle.sequence.proofs.decode_intseq.Statement.{statement}
 use Rattle.sequence.proofs.decode_intseq.Tie as tie

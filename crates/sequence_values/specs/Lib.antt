@@ -1,0 +1,4 @@
+pub mod Sequence
+pub mod DigitLaws
+pub mod SequenceLaws
+pub mod GroupLaws
