@@ -1,6 +1,6 @@
 -- How large the answer of a block is, and the ways out of its map.
 -- Assumes nothing.
-use mathlib.Core.Path.{_≡_, ap, _∙_}
+use mathlib.Core.Path.{_≡_, refl, ap, _∙_}
 use mathlib.Core.Bool.{Bool, true, false, cond, not, _&&_}
 use mathlib.Core.List.{List}
 use Prim.Native.Nat.{ℕ, _+_, _*_, _/_, _≤_, _<_}
@@ -27,8 +27,8 @@ end-lt k = choice (ltb 18 (k .values)) 15 _ (omega arith) (choice (ltb 128 ((13 
 verdict-lt : (k : Config) (foot : Footprint) → verdict k foot < 20
 unfolding verdict
 verdict-lt k foot =
-    choice (ltb bw (k .width)) 11 _ (omega arith)
-    (choice (ltb bh (k .height)) 11 _ (omega arith)
+    choice (ltb (foot .width) (k .width)) 11 _ (omega arith)
+    (choice (ltb (foot .height) (k .height)) 11 _ (omega arith)
     (choice (ltb 64 (weights k)) 12 _ (omega arith)
     (choice (ltb (k .weightlen) 24) 13 _ (omega arith)
     (choice (ltb 96 (k .weightlen)) 13 _ (omega arith)

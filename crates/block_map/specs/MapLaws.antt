@@ -11,7 +11,7 @@ use lib.ListN.{length}
 use borrow.Author.Tests.{eqb-true, le-ltb}
 use Rattle.laws.specs.Table.{all-at}
 use Rattle.bits.specs.Bits.{bytes}
-use Rattle.sequence.specs.Ranges.{tops, topOf}
+use Rattle.sequence_ranges.specs.Ranges.{tops, topOf}
 use Rattle.footprint.specs.Footprints.{texelsOf, listed}
 use Rattle.footprint.specs.declared.Footprint.{Footprint}
 use Rattle.params.specs.Blocks.{answer, mapOf, noMap, legal, paramsOf}

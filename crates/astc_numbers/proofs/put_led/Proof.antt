@@ -10,7 +10,7 @@ slice-write-moved : tie.Need-slice-write-moved
 slice-write-moved c = search needs
 
 slice-write-moved-2 : tie.Need-slice-write-moved-2
-slice-write-moved-2 c = let s = c .before in omega (arith, length-set (s .args .moved .now) 0 (s .args .next), s .pre)
+slice-write-moved-2 c = omega (arith, length-set (c .args .moved .now) 0 (c .args .next), c .pre)
 
 slice-write-moved-3 : tie.Need-slice-write-moved-3
 slice-write-moved-3 c = search needs

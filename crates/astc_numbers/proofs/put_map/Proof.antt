@@ -1,8 +1,6 @@
 -- `astc_numbers::put_map`: each way out is a law of NumberLaws, and the map's numbers are small. Assumes nothing.
 use Rattle.block_map.specs.MapLaws.{map-small}
 use Rattle.astc_numbers.specs.NumberLaws.{refused, no-room, written}
-use Prim.Native.Nat.{_<_}
-use native.Mathlib.Omega.{arith}
 use borrow.Author.Needs.{needs}
 use Rattle.astc_numbers.proofs.put_map.Statement.{statement}
 use Rattle.astc_numbers.proofs.put_map.Tie as tie
@@ -10,14 +8,8 @@ use Rattle.astc_numbers.proofs.put_map.Tie as tie
 block-map-requires : tie.Need-block-map-requires
 block-map-requires c κs = search needs
 
-cast-result : tie.Need-cast-result
-cast-result c =
-    let m = c .before .before .before .block-map in
-    let l : m .result .answer < 23 = rw (m .ensures) (map-small _ _ .answer) in
-    omega (arith, l)
-
 returns : tie.Need-returns
-returns c = refused _ _ (c .before .before .before .block-map .ensures) _ (c .before .if1 .taken)
+returns c = refused _ _ (c .before .before .block-map .ensures) _ (c .if1 .taken)
 
 returns-2 : tie.Need-returns-2
 returns-2 c = no-room _ _ (c .before .before .before .block-map .ensures) _ (c .before .if1 .left) (c .if2 .taken)
@@ -28,27 +20,22 @@ numbers-of-requires c κs = rw (c .before .before .before .block-map .ensures) (
 put-numbers-requires : tie.Need-put-numbers-requires
 put-numbers-requires c κs = search needs
 
-cast-result-2 : tie.Need-cast-result-2
-cast-result-2 c = search needs
-
 same-length : tie.Need-same-length
 same-length c = search needs
 
 returns-3 : tie.Need-returns-3
 returns-3 c =
-    let s = c .before .before .before .before .before .before in
-    written _ _ (s .before .before .before .before .block-map .ensures) _ _ _ (s .before .before .if1 .left) (s .before .if2 .left) (s .numbers-of .ensures) (c .before .before .before .put-numbers .ensures)
+    let s = c .before .before .before .before .before in
+    written _ _ (s .before .before .before .before .block-map .ensures) _ _ _ (s .before .before .if1 .left) (s .before .if2 .left) (s .numbers-of .ensures) (c .before .before .put-numbers .ensures)
 
 pub put-map-spec : {M : Type 1} → statement M
 put-map-spec =
     tie.close
     (tie.spec
     block-map-requires
-    cast-result
     returns
     returns-2
     numbers-of-requires
     put-numbers-requires
-    cast-result-2
     same-length
     returns-3)
