@@ -2,9 +2,10 @@
 -- Assumes nothing.
 use mathlib.Core.Bool.{cond, _&&_}
 use mathlib.Core.List.{List}
-use Prim.Native.Nat.{ℕ, _+_, _*_, _/_, _%_}
+use Prim.Native.Nat.{ℕ, _+_, _*_}
 use lib.Dec.{eqb}
 use lib.ListN.{getD}
+use Rattle.footprint.specs.Footprints.{mostTexels}
 use Rattle.blend.specs.Blend.{ldrChannel, hdrChannel, wordOf}
 use Rattle.endpoints_colours.specs.Colours.{nothing}
 use Rattle.endpoints_colours.specs.declared.Mark.{Mark}
@@ -26,16 +27,8 @@ wordBy e r g b a =
 unfoldable pub planeOf : ℕ → ℕ → ℕ → ℕ
 planeOf planes channel k = cond (eqb planes 2 && eqb channel k) 1 0
 
--- the word of texel i. The weights are flat, the second plane's from 144 on; the map has each texel's partition
+-- the word of texel i. The weights are flat, the second plane's after those of all texels in the first; the map has each texel's partition
 unfoldable pub texelWord : List Endpoints → List ℕ → List ℕ → ℕ → ℕ → ℕ → ℕ
 texelWord ends weights map planes channel i =
-    wordBy (getD ends (getD map i 0) nothing) (getD weights (144 * planeOf planes channel 0 + i) 0) (getD weights (144 * planeOf planes channel 1 + i) 0)
-    (getD weights (144 * planeOf planes channel 2 + i) 0) (getD weights (144 * planeOf planes channel 3 + i) 0)
-
--- half k of words f 0, f 1, .., in 16 bits each: the low half of f (k / 2), with blue and green, and then the high half, with red and alpha
-unfoldable pub halfAt : (ℕ → ℕ) → ℕ → ℕ
-halfAt f k = cond (eqb (k % 2) 0) (f (k / 2) % 65536) (f (k / 2) / 65536)
-
--- n, rounded up to a multiple of 8: as many texels are painted at once
-abbrev pub eights : ℕ → ℕ
-eights n = (n + 7) / 8 * 8
+    wordBy (getD ends (getD map i 0) nothing) (getD weights (mostTexels * planeOf planes channel 0 + i) 0) (getD weights (mostTexels * planeOf planes channel 1 + i) 0)
+    (getD weights (mostTexels * planeOf planes channel 2 + i) 0) (getD weights (mostTexels * planeOf planes channel 3 + i) 0)
