@@ -6,7 +6,7 @@ use Prim.Native.Nat.{ℕ, _+_, _*_, _/_, _%_, _≤_, _<_}
 use native.Mathlib.Omega.{arith}
 use lib.ListN.{set}
 use Rattle.laws.specs.Lists.{put}
-use Rattle.blend.specs.Blend.{crateByte, hdrBlend, halfOf, wordOf}
+use Rattle.blend.specs.Blend.{crateByte, hdrHalf, wordOf}
 use Rattle.blend.specs.BlendLaws.{hdr-byte}
 use Rattle.endpoints_colours.specs.Bounds.{limit}
 use Rattle.endpoints_colours.specs.declared.Mark.{Mark}
@@ -20,7 +20,7 @@ use Rattle.texels.specs.Texels.{channelBy, wordBy}
 pub channel-byte : (m : Mark) (e0 e1 w : ℕ) → channelBy m e0 e1 w ≤ 255
 unfolding channelBy crateByte
 channel-byte Ldr e0 e1 w = omega arith
-channel-byte Hdr e0 e1 w = hdr-byte (halfOf (hdrBlend e0 e1 w))
+channel-byte Hdr e0 e1 w = hdr-byte (hdrHalf e0 e1 w)
 
 -- the lanes of a word
 word-low : (r g b a : ℕ) → b ≤ 255 → g ≤ 255 → wordOf r g b a % 65536 ≡ b + 256 * g

@@ -22,7 +22,7 @@ use Rattle.texels.specs.Kinds.{startsOf, wordAt, kindOf, AllOf, eitherOf}
 use Rattle.lanes.specs.LaneLaws.{two-stores}
 use Rattle.texels.specs.PaintLaws.{low-lane, high-lane}
 use Rattle.texels.specs.KindLaws.{both-ldr, either-entry}
-use Rattle.texels.specs.TexelLaws.{by-starts, painted}
+use Rattle.texels.specs.TexelLaws.{texel-is, by-starts, painted}
 use Rattle.texels.specs.declared.Starts.{Starts}
 use Rattle.texels_ldr.specs.Plain.{Plain, wordOne, ldrPair}
 
@@ -92,8 +92,7 @@ one-plane planes channel k i e = rw e (zero-add i)
 
 module _ (n parts planes channel : ℕ) (ends : List Endpoints) (weights map : List ℕ) (given : Given n parts planes ends weights map) where
   by-one : planes ≡ 1 → (i : ℕ) → wordOne (getD ends (getD map i 0) nothing) weights i ≡ texelWord ends weights map planes channel i
-  unfolding texelWord
-  by-one e i = rw (one-plane planes channel 0 i e, one-plane planes channel 1 i e, one-plane planes channel 2 i e, one-plane planes channel 3 i e)
+  by-one e i = rw (texel-is planes channel ends weights map i, one-plane planes channel 0 i e, one-plane planes channel 1 i e, one-plane planes channel 2 i e, one-plane planes channel 3 i e)
 
   -- of one partition every texel has the first's endpoints
   first : parts ≡ 1 → (i : ℕ) → getD map i 0 ≡ 0
