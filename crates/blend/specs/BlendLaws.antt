@@ -3,7 +3,7 @@
 use mathlib.Core.Path.{_≡_, sym, ap, _∙_}
 use mathlib.Core.Bool.{cond}
 use Prim.Native.Nat.{ℕ, _+_, _-_, _*_, _/_, _%_, _^_, _≤_, _<_, min, max}
-use native.Mathlib.Nat.{mul-comm, mul-assoc, mul-add, mul-le-mul-right}
+use native.Mathlib.Nat.{mod-eq-of-lt, mul-comm, mul-assoc, mul-add, mul-le-mul-right}
 use native.Mathlib.Decide.{decLt}
 use native.Mathlib.Omega.{arith}
 use lib.Bits.{bitOr, or-shifted, or-lt}
@@ -13,13 +13,8 @@ use Rattle.laws.specs.Numbers.{choice-le}
 use Rattle.half.specs.Half.{sign, field, digits, whole, hdrByte, hdrByteOf}
 use Rattle.blend.specs.Blend.{between, expand, crateByte, ldrChannel, hdrBlend, bent, halfOf, hdrChannel}
 
--- ---- LDR
--- a byte is expanded to 257 times itself
-pub expand-byte : (e : ℕ) → e ≤ 255 → expand e ≡ 257 * e
-unfolding expand
-expand-byte e h = or-shifted e 8 e (omega arith) ∙ omega arith
-
--- the sum of two endpoints by their shares
+-- ---- between two numbers
+-- the sum of two numbers by their shares
 abbrev pub shares : ℕ → ℕ → ℕ → ℕ
 shares e0 e1 w = e0 * (64 - w) + e1 * w
 
@@ -39,6 +34,84 @@ shares-most e0 e1 w h =
     let b : e1 * w ≤ m * w = mul-le-mul-right w (omega arith) in
     let s : m * (64 - w) + m * w ≡ m * 64 = sym (mul-add m (64 - w) w) ∙ ap (λ (n : ℕ). m * n) (omega arith) in
     omega arith
+
+-- a number c lies between a and b
+pub record Within (a b c : ℕ) : Type 0 where
+  pub least : min a b ≤ c
+  pub most : c ≤ max a b
+
+-- what is blended lies between its two ends
+pub between-within : (x0 x1 w : ℕ) → w ≤ 64 → Within x0 x1 (between x0 x1 w)
+unfolding between
+between-within x0 x1 w h =
+    let a : 64 * min x0 x1 ≤ shares x0 x1 w = shares-least x0 x1 w h in
+    let b : shares x0 x1 w ≤ 64 * max x0 x1 = shares-most x0 x1 w h in
+    record { least = omega arith; most = omega arith }
+
+-- and does not fall where its ends rise
+pub between-mono : (x0 x1 y0 y1 w : ℕ) → x0 ≤ y0 → x1 ≤ y1 → between x0 x1 w ≤ between y0 y1 w
+unfolding between
+between-mono x0 x1 y0 y1 w h l =
+    let a : x0 * (64 - w) ≤ y0 * (64 - w) = mul-le-mul-right (64 - w) h in
+    let b : x1 * w ≤ y1 * w = mul-le-mul-right w l in
+    omega arith
+
+-- a function that does not fall, of numbers up to n
+abbrev pub Rising : ℕ → (ℕ → ℕ) → Type 0
+Rising n f = (x y : ℕ) → x ≤ y → y ≤ n → f x ≤ f y
+
+-- it takes what lies between two numbers to what lies between their values
+pub within-rising : (n : ℕ) (f : ℕ → ℕ) → Rising n f → (a b c : ℕ) → a ≤ n → b ≤ n → Within a b c → Within (f a) (f b) (f c)
+within-rising n f up a b c h l w = go (decLt a b)
+  where
+    go : Dec (a < b) → Within (f a) (f b) (f c)
+    go (yes p) =
+        let low : f a ≤ f c = up a c (omega (arith, w .least)) (omega (arith, w .most)) in
+        let high : f c ≤ f b = up c b (omega (arith, w .most)) l in
+        record { least = omega arith; most = omega arith }
+    go (no p) =
+        let low : f b ≤ f c = up b c (omega (arith, w .least)) (omega (arith, w .most)) in
+        let high : f c ≤ f a = up c a (omega (arith, w .most)) h in
+        record { least = omega arith; most = omega arith }
+
+-- ---- LDR
+-- a byte is expanded to 257 times itself
+pub expand-byte : (e : ℕ) → e ≤ 255 → expand e ≡ 257 * e
+unfolding expand
+expand-byte e h = or-shifted e 8 e (omega arith) ∙ omega arith
+
+-- the expansion and the reduction of 16 bits do not fall
+pub expand-rising : Rising 255 expand
+expand-rising x y h l = rw (expand-byte x (omega arith), expand-byte y l) (omega arith)
+
+shared-rising : (x y : ℕ) → x ≤ y → x / 65536 ≤ y / 65536
+shared-rising x y h = omega arith
+
+byte-rising : (x y : ℕ) → x ≤ y → y ≤ 255 → x % 256 ≤ y % 256
+byte-rising x y h l = omega arith
+
+byte-of : (e : ℕ) → e ≤ 255 → (65536 * e + (32768 - e)) / 65536 % 256 ≡ e
+byte-of e h =
+    let d : (65536 * e + (32768 - e)) / 65536 ≡ e = omega arith in
+    rw d (mod-eq-of-lt (omega arith))
+
+pub crate-rising : Rising 65535 crateByte
+unfolding crateByte
+crate-rising x y h l = byte-rising _ _ (shared-rising (255 * x + 32768) (255 * y + 32768) (omega arith)) (omega arith)
+
+-- a byte that is expanded and reduced is itself
+pub crate-expand : (e : ℕ) → e ≤ 255 → crateByte (expand e) ≡ e
+unfolding crateByte
+crate-expand e h =
+    let s : 255 * (257 * e) + 32768 ≡ 65536 * e + (32768 - e) = omega arith in
+    rw (expand-byte e h, s) (byte-of e h)
+
+-- so an LDR channel lies between its endpoints
+pub ldr-within : (e0 e1 w : ℕ) → e0 ≤ 255 → e1 ≤ 255 → w ≤ 64 → Within e0 e1 (ldrChannel e0 e1 w)
+ldr-within e0 e1 w h l k =
+    let a : expand e0 ≤ 65535 = rw (expand-byte e0 h) (omega arith) in
+    let b : expand e1 ≤ 65535 = rw (expand-byte e1 l) (omega arith) in
+    rw (crate-expand e0 h, crate-expand e1 l) at (within-rising 65535 crateByte crate-rising (expand e0) (expand e1) _ a b (between-within (expand e0) (expand e1) w k))
 
 -- the closed form for bytes, in 16 bits
 abbrev pub byteOf : ℕ → ℕ
@@ -95,18 +168,6 @@ ldr-closed e0 e1 w h l k =
     ap (λ (n : ℕ). n + 257 * e1 * w) (mul-assoc 257 e0 (64 - w)) ∙ ap (λ (n : ℕ). 257 * (e0 * (64 - w)) + n) (mul-assoc 257 e1 w) ∙ sym (mul-add 257 (e0 * (64 - w)) (e1 * w)) in
     let m : shares e0 e1 w ≤ 16320 = omega (arith, shares-most e0 e1 w k) in
     rw (expand-byte e0 h, expand-byte e1 l, s) (closed (shares e0 e1 w) m)
-
--- an LDR channel lies between its endpoints
-pub record Within (e0 e1 c : ℕ) : Type 0 where
-  pub least : min e0 e1 ≤ c
-  pub most : c ≤ max e0 e1
-
-pub ldr-within : (e0 e1 w : ℕ) → e0 ≤ 255 → e1 ≤ 255 → w ≤ 64 → Within e0 e1 (ldrChannel e0 e1 w)
-ldr-within e0 e1 w h l k =
-    let v = shares e0 e1 w in
-    let a : 64 * min e0 e1 ≤ v = shares-least e0 e1 w k in
-    let b : v ≤ 64 * max e0 e1 = shares-most e0 e1 w k in
-    rw (ldr-closed e0 e1 w h l k) (record { least = omega arith; most = omega arith })
 
 -- ---- HDR
 -- the blended value with the common factor taken out

@@ -12,16 +12,13 @@ use native.Mathlib.Decide.{decLt}
 use lib.ListN.{length, getD, replicate, length-replicate, getD-replicate}
 use Rattle.laws.specs.Lists.{put, length-put, put-in, put-after, is-listOf}
 use Rattle.laws.specs.Table.{all, all-at}
+use Rattle.lanes.specs.Lanes.{eights}
 use Rattle.sequence.specs.Ranges.{ranges, rangeOf, levels}
 use Rattle.sequence.specs.Patterns.{copies, repeated, spelt}
 use Rattle.endpoints_unquantise.specs.Patterns.{tritRows, quintRows}
 use Rattle.endpoints_unquantise.specs.Unquantised.{byRow, unquantise, endpointValue, endpointValues}
 use Rattle.endpoints_unquantise.specs.declared.Rule.{Rule}
 use Rattle.endpoints_unquantise.specs.declared.Repeat.{Repeat}
-
--- a loop runs to the next multiple of 8
-abbrev pub rounded : ℕ → ℕ
-rounded n = (n + 7) / 8 * 8
 
 -- x, or 255 - x where v is odd
 abbrev pub flipped : ℕ → ℕ → ℕ
@@ -123,10 +120,10 @@ value-zero q h = eqb→eq (endpointValue q 0) 0 (all-at zeroTest 21 tt q h)
 
 -- what a loop has filled with f's bytes of a sequence's n values is the list of all its bytes
 pub all-filled : (f : ℕ → ℕ) (q n : ℕ) (seq out last : List ℕ) → q < 21 → n ≤ 18 → Gives f q → ((i : ℕ) → getD seq i 0 < levels (rangeOf q))
-    → ((i : ℕ) → n ≤ i → getD seq i 0 ≡ 0) → out ≡ replicate 32 0 → last ≡ put (λ (k : ℕ). f (getD seq k 0)) 0 (rounded n) out → last ≡ endpointValues q seq
+    → ((i : ℕ) → n ≤ i → getD seq i 0 ≡ 0) → out ≡ replicate 32 0 → last ≡ put (λ (k : ℕ). f (getD seq k 0)) 0 (eights n) out → last ≡ endpointValues q seq
 unfolding endpointValues
 all-filled f q n seq out last h l right small past e d =
-    is-listOf _ 32 last (ap length d ∙ length-put g 0 (rounded n) out ∙ ap length e ∙ length-replicate {A = ℕ} 32 0) (λ k m. ap (λ (x : List ℕ). getD x k 0) d ∙ at k m (decLt k (rounded n)))
+    is-listOf _ 32 last (ap length d ∙ length-put g 0 (eights n) out ∙ ap length e ∙ length-replicate {A = ℕ} 32 0) (λ k m. ap (λ (x : List ℕ). getD x k 0) d ∙ at k m (decLt k (eights n)))
   where
     g : ℕ → ℕ
     g k = f (getD seq k 0)
@@ -134,10 +131,10 @@ all-filled f q n seq out last h l right small past e d =
     inside : (k : ℕ) → k < 32 → k < length out
     inside k m = rw (e, length-replicate {A = ℕ} 32 0) m
 
-    at : (k : ℕ) → k < 32 → Dec (k < rounded n) → getD (put g 0 (rounded n) out) k 0 ≡ endpointValue q (getD seq k 0)
-    at k m (yes p) = put-in g 0 (rounded n) out k (inside k m) (omega arith) p ∙ right (getD seq k 0) (small k)
+    at : (k : ℕ) → k < 32 → Dec (k < eights n) → getD (put g 0 (eights n) out) k 0 ≡ endpointValue q (getD seq k 0)
+    at k m (yes p) = put-in g 0 (eights n) out k (inside k m) (omega arith) p ∙ right (getD seq k 0) (small k)
     at k m (no p) =
-        put-after g 0 (rounded n) out k (inside k m) (omega arith)
+        put-after g 0 (eights n) out k (inside k m) (omega arith)
         ∙ ap (λ (x : List ℕ). getD x k 0) e
         ∙ getD-replicate 32 k 0 0 m
         ∙ sym (ap (endpointValue q) (past k (omega arith)) ∙ value-zero q h)

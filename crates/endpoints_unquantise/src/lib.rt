@@ -3,9 +3,10 @@ ghost use mathlib.Core.Path.{_≡_};
 ghost use Prim.Native.Nat.{ℕ, _%_, _≤_, _<_};
 ghost use lib.ListN.{getD, replicate};
 ghost use Rattle.laws.specs.Lists.{put};
+ghost use Rattle.lanes.specs.Lanes.{eights};
 ghost use Rattle.sequence.specs.Ranges.{rangeOf, levels};
 ghost use Rattle.endpoints_unquantise.specs.Unquantised.{endpointValues};
-ghost use Rattle.endpoints_unquantise.specs.Closed.{rounded, flipped, unpacked, copied, Narrow, NarrowRepeat, Unpacks, Repeats};
+ghost use Rattle.endpoints_unquantise.specs.Closed.{flipped, unpacked, copied, Narrow, NarrowRepeat, Unpacks, Repeats};
 
 // The rule by which a range of trits or quints becomes bytes. Value d * 2^bits + m, with x the bits of m above the
 // lowest, is d * by + x * spread + (x >> over) before the lowest bit is brought in.
@@ -92,9 +93,9 @@ fn unpack(p: Rule, v: u8) -> u8
 // The values up to the next multiple of 8: a loop without a remainder.
 fn unpack_all(out: &mut [u8; 32], n: usize, p: Rule, seq: &[u8; 72])
     requires { ⌜ n ≤ 18 ⌝ ∗ ⌜ Narrow p ⌝ }
-    ensures { λ r. ⌜ now (out .exit) ≡ put (λ (k : ℕ). unpacked p (getD (now (seq .entry)) k 0)) 0 (rounded n) (now (out .entry)) ⌝ }
+    ensures { λ r. ⌜ now (out .exit) ≡ put (λ (k : ℕ). unpacked p (getD (now (seq .entry)) k 0)) 0 (eights n) (now (out .entry)) ⌝ }
 {
-    let m = (n + 7) / 8 * 8;
+    let m = lanes::eights(n);
     let mut i = 0;
     while i < m {
         out[i] = unpack(p, seq[i]);
@@ -134,9 +135,9 @@ fn copy_bits(p: Repeat, v: u8) -> u8
 // The values up to the next multiple of 8: a loop without a remainder.
 fn copy_all(out: &mut [u8; 32], n: usize, p: Repeat, seq: &[u8; 72])
     requires { ⌜ n ≤ 18 ⌝ ∗ ⌜ NarrowRepeat p ⌝ }
-    ensures { λ r. ⌜ now (out .exit) ≡ put (λ (k : ℕ). copied p (getD (now (seq .entry)) k 0)) 0 (rounded n) (now (out .entry)) ⌝ }
+    ensures { λ r. ⌜ now (out .exit) ≡ put (λ (k : ℕ). copied p (getD (now (seq .entry)) k 0)) 0 (eights n) (now (out .entry)) ⌝ }
 {
-    let m = (n + 7) / 8 * 8;
+    let m = lanes::eights(n);
     let mut i = 0;
     while i < m {
         out[i] = copy_bits(p, seq[i]);

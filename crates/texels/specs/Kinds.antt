@@ -6,6 +6,7 @@ use mathlib.Core.List.{List, [], _∷_}
 use Prim.Native.Nat.{ℕ, _+_, _*_, _≤_, _<_}
 use lib.Dec.{eqb}
 use lib.ListN.{getD}
+use Rattle.footprint.specs.Footprints.{mostTexels}
 use Rattle.endpoints_colours.specs.Colours.{nothing}
 use Rattle.endpoints_colours.specs.declared.Mark.{Mark}
 use Rattle.endpoints_colours.specs.declared.Mark.the-variants.{Ldr, Hdr}
@@ -16,18 +17,18 @@ use Rattle.texels.specs.declared.Starts.{Starts}
 -- where each channel's weights start
 abbrev pub startsOf : ℕ → ℕ → Starts
 startsOf planes channel = record {
-  r = 144 * planeOf planes channel 0;
-  g = 144 * planeOf planes channel 1;
-  b = 144 * planeOf planes channel 2;
-  a = 144 * planeOf planes channel 3;
+  r = mostTexels * planeOf planes channel 0;
+  g = mostTexels * planeOf planes channel 1;
+  b = mostTexels * planeOf planes channel 2;
+  a = mostTexels * planeOf planes channel 3;
 }
 
--- starts from which the weights of 144 texels are there
+-- starts from which the weights of all texels are there
 pub record Ahead (k : Starts) : Type 0 where
-  pub r : k .r ≤ 144
-  pub g : k .g ≤ 144
-  pub b : k .b ≤ 144
-  pub a : k .a ≤ 144
+  pub r : k .r ≤ mostTexels
+  pub g : k .g ≤ mostTexels
+  pub b : k .b ≤ mostTexels
+  pub a : k .a ≤ mostTexels
 
 -- the word of texel i between the endpoints e
 abbrev pub wordAt : Endpoints → List ℕ → Starts → ℕ → ℕ

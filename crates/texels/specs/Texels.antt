@@ -1,41 +1,66 @@
--- The word of a texel, from its partition's endpoints and its weights.
+-- The channels of a texel, from its partition's endpoints and its weights, and its word.
 -- Assumes nothing.
 use mathlib.Core.Bool.{cond, _&&_}
 use mathlib.Core.List.{List}
-use Prim.Native.Nat.{ℕ, _+_, _*_, _/_, _%_}
+use Prim.Native.Nat.{ℕ, _+_, _*_}
 use lib.Dec.{eqb}
 use lib.ListN.{getD}
-use Rattle.blend.specs.Blend.{ldrChannel, hdrChannel, wordOf}
-use Rattle.endpoints_colours.specs.Colours.{nothing}
+use Rattle.footprint.specs.Footprints.{mostTexels}
+use Rattle.half.specs.Half.{hdrByteOf}
+use Rattle.blend.specs.Blend.{ldrBlend, hdrHalf, crateByte, wordOf}
+use Rattle.endpoints_colours.specs.Colours.{nothing, markOf, firstOf, secondOf}
 use Rattle.endpoints_colours.specs.declared.Mark.{Mark}
 use Rattle.endpoints_colours.specs.declared.Mark.the-variants.{Ldr, Hdr}
 use Rattle.endpoints_colours.specs.declared.Endpoints.{Endpoints}
 
--- a channel between two endpoints, by their mark
+-- ---- a channel, before it is reduced to a byte
+-- its mark, and its value: of 16 bits where it is LDR, a half where it is HDR
+pub record Channel : Type 0 where
+  pub mark : Mark
+  pub value : ℕ
+
+-- the value between two endpoints, by their mark
+abbrev pub blendBy : Mark → ℕ → ℕ → ℕ → ℕ
+blendBy Ldr e0 e1 w = ldrBlend e0 e1 w
+blendBy Hdr e0 e1 w = hdrHalf e0 e1 w
+
+-- the plane of channel k, of 0 to 3 for red to alpha: of two planes the second is that of the one chosen channel
+unfoldable pub planeOf : ℕ → ℕ → ℕ → ℕ
+planeOf planes channel k = cond (eqb planes 2 && eqb channel k) 1 0
+
+-- the weight of channel k of texel i. The weights are flat, the second plane's after those of all texels in the first
+abbrev pub weightAt : List ℕ → ℕ → ℕ → ℕ → ℕ → ℕ
+weightAt weights planes channel i k = getD weights (mostTexels * planeOf planes channel k + i) 0
+
+-- channel k between the endpoints e, at a weight
+abbrev pub channelOf : Endpoints → ℕ → ℕ → Channel
+channelOf e k w = record { mark = markOf e k; value = blendBy (markOf e k) (firstOf e k) (secondOf e k) w }
+
+-- channel k of texel i. The map has each texel's partition
+abbrev pub channelAt : List Endpoints → List ℕ → List ℕ → ℕ → ℕ → ℕ → ℕ → Channel
+channelAt ends weights map planes channel i k = channelOf (getD ends (getD map i 0) nothing) k (weightAt weights planes channel i k)
+
+-- ---- reduced to a byte
+-- as the crate does it, by the mark
+abbrev pub crateReduction : Mark → ℕ → ℕ
+crateReduction Ldr c = crateByte c
+crateReduction Hdr h = hdrByteOf h
+
+-- the word of four channels, each by a reduction
+abbrev pub wordFrom : (Mark → ℕ → ℕ) → (ℕ → Channel) → ℕ
+wordFrom reduced c = wordOf (reduced (c 0 .mark) (c 0 .value)) (reduced (c 1 .mark) (c 1 .value)) (reduced (c 2 .mark) (c 2 .value)) (reduced (c 3 .mark) (c 3 .value))
+
+-- the word of texel i
+unfoldable pub texelWord : List Endpoints → List ℕ → List ℕ → ℕ → ℕ → ℕ → ℕ
+texelWord ends weights map planes channel i = wordFrom crateReduction (channelAt ends weights map planes channel i)
+
+-- ---- short names for both at once
+-- a channel between two endpoints as a byte, by their mark: `ldrChannel` or `hdrChannel`
 unfoldable pub channelBy : Mark → ℕ → ℕ → ℕ → ℕ
-channelBy Ldr e0 e1 w = ldrChannel e0 e1 w
-channelBy Hdr e0 e1 w = hdrChannel e0 e1 w
+channelBy m e0 e1 w = crateReduction m (blendBy m e0 e1 w)
 
 -- the word between a pair of endpoints, at a weight for each of red, green, blue and alpha
 unfoldable pub wordBy : Endpoints → ℕ → ℕ → ℕ → ℕ → ℕ
 wordBy e r g b a =
     wordOf (channelBy (e .color) (e .r0) (e .r1) r) (channelBy (e .color) (e .g0) (e .g1) g) (channelBy (e .color) (e .b0) (e .b1) b)
     (channelBy (e .alpha) (e .a0) (e .a1) a)
-
--- the plane of channel k, of 0 to 3 for red to alpha: of two planes the second is that of the one chosen channel
-unfoldable pub planeOf : ℕ → ℕ → ℕ → ℕ
-planeOf planes channel k = cond (eqb planes 2 && eqb channel k) 1 0
-
--- the word of texel i. The weights are flat, the second plane's from 144 on; the map has each texel's partition
-unfoldable pub texelWord : List Endpoints → List ℕ → List ℕ → ℕ → ℕ → ℕ → ℕ
-texelWord ends weights map planes channel i =
-    wordBy (getD ends (getD map i 0) nothing) (getD weights (144 * planeOf planes channel 0 + i) 0) (getD weights (144 * planeOf planes channel 1 + i) 0)
-    (getD weights (144 * planeOf planes channel 2 + i) 0) (getD weights (144 * planeOf planes channel 3 + i) 0)
-
--- half k of words f 0, f 1, .., in 16 bits each: the low half of f (k / 2), with blue and green, and then the high half, with red and alpha
-unfoldable pub halfAt : (ℕ → ℕ) → ℕ → ℕ
-halfAt f k = cond (eqb (k % 2) 0) (f (k / 2) % 65536) (f (k / 2) / 65536)
-
--- n, rounded up to a multiple of 8: as many texels are painted at once
-abbrev pub eights : ℕ → ℕ
-eights n = (n + 7) / 8 * 8

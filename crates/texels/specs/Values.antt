@@ -6,12 +6,14 @@ use mathlib.Core.List.{List, [], _∷_}
 use Prim.Native.Nat.{ℕ, _/_}
 use lib.Dec.{eqb}
 use Rattle.laws.specs.Lists.{listOf}
+use Rattle.footprint.specs.Footprints.{mostTexels, mostWeights}
 use Rattle.half.specs.Half.{hdrByte}
 use Rattle.blend.specs.Blend.{between, expand, crateByte, bent, halfOf}
 use Rattle.endpoints_colours.specs.Colours.{rgba, endpoints, ldr}
 use Rattle.endpoints_colours.specs.declared.Mark.the-variants.{Ldr, Hdr}
 use Rattle.endpoints_colours.specs.declared.Endpoints.{Endpoints}
-use Rattle.texels.specs.Texels.{channelBy, wordBy, planeOf, texelWord, halfAt, eights}
+use Rattle.lanes.specs.Lanes.{laneAt, eights}
+use Rattle.texels.specs.Texels.{channelBy, wordBy, planeOf, texelWord}
 
 -- red to blue; dark to bright in high dynamic range, and the same under LDR alphas
 unfoldable pub ends : List Endpoints
@@ -23,7 +25,7 @@ ends =
 
 -- weight 32 in the first plane, 64 in the second
 unfoldable pub weights : List ℕ
-weights = listOf (λ (k : ℕ). cond (eqb (k / 144) 0) 32 64) 0 288
+weights = listOf (λ (k : ℕ). cond (eqb (k / mostTexels) 0) 32 64) 0 mostWeights
 
 -- texel i in partition i
 unfoldable pub map : List ℕ
@@ -44,17 +46,17 @@ pub record Values : Type 0 where
   pub hdr-bright : texelWord ends weights map 2 0 1 ≡ 0xFFFF_7F01
   -- an HDR colour with an LDR alpha
   pub mixed : texelWord ends weights map 1 0 2 ≡ 0x40B7_7F01
-  -- the low half comes first
-  pub low : halfAt (texelWord ends weights map 1 0) 0 ≡ 0x0080
-  pub high : halfAt (texelWord ends weights map 1 0) 1 ≡ 0xFF80
-  pub next : halfAt (texelWord ends weights map 1 0) 2 ≡ 0x7F01
+  -- the low lane comes first
+  pub low : laneAt (texelWord ends weights map 1 0) 0 ≡ 0x0080
+  pub high : laneAt (texelWord ends weights map 1 0) 1 ≡ 0xFF80
+  pub next : laneAt (texelWord ends weights map 1 0) 2 ≡ 0x7F01
   -- as many as are painted
   pub four-by-four : eights 16 ≡ 16
   pub five-by-five : eights 25 ≡ 32
   pub six-by-six : eights 36 ≡ 40
 
 pub values : Values
-unfolding ends weights map channelBy wordBy planeOf texelWord halfAt between expand crateByte bent halfOf hdrByte listOf
+unfolding ends weights map channelBy wordBy planeOf texelWord laneAt between expand crateByte bent halfOf hdrByte listOf
 values = record {
   half-way = refl;
   red-apart = refl;

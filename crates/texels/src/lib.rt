@@ -1,9 +1,11 @@
 // What the loops over texels share: where the weights of each channel start, the number of a texel's partition, and one HDR channel.
 ghost use mathlib.Core.Path.{_≡_};
 ghost use Prim.Native.Nat.{_*_, _≤_, _<_};
+ghost use Rattle.footprint.specs.Footprints.{mostTexels};
 ghost use Rattle.blend.specs.Blend.{hdrChannel};
 ghost use Rattle.texels.specs.Texels.{planeOf};
 ghost use Rattle.texels.specs.Kinds.{startsOf, Ahead, eitherOf, anyOf};
+use footprint::TEXELS;
 
 // Where the weights of each channel start.
 pub struct Starts {
@@ -26,13 +28,13 @@ fn long(x: u16) -> u32
     x as u32
 }
 
-// Where the weights of channel k start: those of the second plane stand from 144 on.
+// Where the weights of channel k start: those of the second plane follow those of all texels in the first.
 fn start(planes: usize, channel: usize, k: usize) -> usize
-    ensures { λ r. ⌜ (r ≡ 144 * planeOf planes channel k) × (r ≤ 144) ⌝ }
+    ensures { λ r. ⌜ (r ≡ mostTexels * planeOf planes channel k) × (r ≤ mostTexels) ⌝ }
 {
     if planes == 2 {
         if channel == k {
-            return 144;
+            return TEXELS;
         }
         return 0;
     }

@@ -8,6 +8,7 @@ use native.Mathlib.Omega.{arith}
 use lib.ListN.{getD, replicate}
 use borrow.Author.Tests.{lt-ltb}
 use Rattle.laws.specs.Lists.{put, put-same, zeros-at}
+use Rattle.footprint.specs.Footprints.{mostTexels}
 use Rattle.half.specs.Half.{hdrByteOf}
 use Rattle.blend.specs.Blend.{between, halfOf, hdrChannel, wordOf}
 use Rattle.endpoints_colours.specs.Bounds.{Within, limit}
@@ -15,10 +16,11 @@ use Rattle.endpoints_colours.specs.Colours.{nothing}
 use Rattle.endpoints_colours.specs.declared.Mark.{Mark}
 use Rattle.endpoints_colours.specs.declared.Mark.the-variants.{Ldr, Hdr}
 use Rattle.endpoints_colours.specs.declared.Endpoints.{Endpoints}
-use Rattle.texels.specs.Texels.{channelBy, wordBy, texelWord, halfAt, eights}
+use Rattle.lanes.specs.Lanes.{laneAt, eights}
+use Rattle.texels.specs.Texels.{channelBy, wordBy, texelWord}
 use Rattle.texels.specs.Given.{Given}
 use Rattle.texels.specs.Kinds.{startsOf, AllOf}
-use Rattle.texels.specs.PaintLaws.{put-halves}
+use Rattle.lanes.specs.LaneLaws.{put-lanes}
 use Rattle.texels.specs.KindLaws.{both-hdr, any-field, any-entry}
 use Rattle.texels.specs.TexelLaws.{by-starts}
 use Rattle.texels.specs.declared.Starts.{Starts}
@@ -81,24 +83,24 @@ hdr-word e r g b a p q = rw (p, q)
 
 module _ (n parts planes channel : ℕ) (ends : List Endpoints) (weights map : List ℕ) (given : Given n parts planes ends weights map) where
   -- a channel of texel i, of those of all
-  channel-at : (φ ψ : Endpoints → ℕ) (v : Numbers) (x i : ℕ) (s : List ℕ) → v ≡ numbers φ ψ ends → s ≡ put (hdrAt (v .first) (v .second) weights map x) 0 (eights n) (replicate 144 0) → i < eights n
+  channel-at : (φ ψ : Endpoints → ℕ) (v : Numbers) (x i : ℕ) (s : List ℕ) → v ≡ numbers φ ψ ends → s ≡ put (hdrAt (v .first) (v .second) weights map x) 0 (eights n) (replicate mostTexels 0) → i < eights n
       → getD s i 0 ≡ hdrChannel (φ (getD ends (getD map i 0) nothing)) (ψ (getD ends (getD map i 0) nothing)) (getD weights (x + i) 0)
   channel-at φ ψ v x i s e h l =
       let p : getD map i 0 < 4 = omega (arith, given .mapped i, given .four) in
-      let m : eights n ≤ 144 = omega (arith, given .few) in
+      let m : eights n ≤ mostTexels = omega (arith, given .few) in
       let f = hdrAt (fieldOf φ ends) (fieldOf ψ ends) weights map x in
-      let t : s ≡ put f 0 (eights n) (replicate 144 0) = rw e at h in
-      rw (t, zeros-at f (eights n) 144 i m, lt-ltb i (eights n) l, field-at φ ends (getD map i 0) p, field-at ψ ends (getD map i 0) p)
+      let t : s ≡ put f 0 (eights n) (replicate mostTexels 0) = rw e at h in
+      rw (t, zeros-at f (eights n) mostTexels i m, lt-ltb i (eights n) l, field-at φ ends (getD map i 0) p, field-at ψ ends (getD map i 0) p)
 
   pub as-hdr : (k : Starts) (vr vg vb va : Numbers) (r g b a out s : List ℕ) → AllOf 1 parts ends → k ≡ startsOf planes channel
       → vr ≡ numbers (λ (e : Endpoints). e .r0) (λ (e : Endpoints). e .r1) ends → vg ≡ numbers (λ (e : Endpoints). e .g0) (λ (e : Endpoints). e .g1) ends
       → vb ≡ numbers (λ (e : Endpoints). e .b0) (λ (e : Endpoints). e .b1) ends → va ≡ numbers (λ (e : Endpoints). e .a0) (λ (e : Endpoints). e .a1) ends
-      → r ≡ put (hdrAt (vr .first) (vr .second) weights map (k .r)) 0 (eights n) (replicate 144 0)
-      → g ≡ put (hdrAt (vg .first) (vg .second) weights map (k .g)) 0 (eights n) (replicate 144 0)
-      → b ≡ put (hdrAt (vb .first) (vb .second) weights map (k .b)) 0 (eights n) (replicate 144 0)
-      → a ≡ put (hdrAt (va .first) (va .second) weights map (k .a)) 0 (eights n) (replicate 144 0)
-      → out ≡ put (halfAt (wordAmong r g b a)) 0 (2 * eights n) s → out ≡ put (halfAt (texelWord ends weights map planes channel)) 0 (2 * eights n) s
-  as-hdr k vr vg vb va r g b a out s all ek er eg eb ea pr pg pb pa h = h ∙ put-halves _ _ (eights n) s same
+      → r ≡ put (hdrAt (vr .first) (vr .second) weights map (k .r)) 0 (eights n) (replicate mostTexels 0)
+      → g ≡ put (hdrAt (vg .first) (vg .second) weights map (k .g)) 0 (eights n) (replicate mostTexels 0)
+      → b ≡ put (hdrAt (vb .first) (vb .second) weights map (k .b)) 0 (eights n) (replicate mostTexels 0)
+      → a ≡ put (hdrAt (va .first) (va .second) weights map (k .a)) 0 (eights n) (replicate mostTexels 0)
+      → out ≡ put (laneAt (wordAmong r g b a)) 0 (2 * eights n) s → out ≡ put (laneAt (texelWord ends weights map planes channel)) 0 (2 * eights n) s
+  as-hdr k vr vg vb va r g b a out s all ek er eg eb ea pr pg pb pa h = h ∙ put-lanes _ _ (eights n) s same
     where
       same : (i : ℕ) → i < eights n → wordAmong r g b a i ≡ texelWord ends weights map planes channel i
       same i l =

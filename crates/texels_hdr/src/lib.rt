@@ -3,13 +3,19 @@ ghost use mathlib.Core.Path.{_≡_};
 ghost use Prim.Native.Nat.{ℕ, _+_, _*_, _≤_, _<_};
 ghost use lib.ListN.{getD};
 ghost use Rattle.laws.specs.Lists.{put};
+ghost use Rattle.footprint.specs.Footprints.{mostTexels};
 ghost use Rattle.blend.specs.Blend.{hdrChannel};
 ghost use Rattle.endpoints_colours.specs.declared.Endpoints.{Endpoints};
-ghost use Rattle.texels.specs.Texels.{texelWord, halfAt, eights};
+ghost use Rattle.lanes.specs.Lanes.{laneAt, eights};
+ghost use Rattle.texels.specs.Texels.{texelWord};
 ghost use Rattle.texels.specs.Given.{Given};
 ghost use Rattle.texels.specs.Kinds.{AllOf};
 ghost use Rattle.texels_hdr.specs.Channels.{Wide, hdrAt, numbers, wordAmong};
 use endpoints_colours::Endpoints;
+use footprint::TEXELS;
+use footprint::WEIGHTS;
+use lanes::LANES;
+use lanes::eights;
 use texels::any;
 use texels::either;
 use texels::hdr_channel;
@@ -29,11 +35,11 @@ fn wide(x: u8) -> u16
 }
 
 // One HDR channel of the texels of one partition; the weights start at x.
-fn hdr_one(out: &mut [u8; 144], n: usize, w: &[u8; 288], x: usize, v0: u16, v1: u16)
-    requires { ⌜ (n ≤ 144) × (x ≤ 144) × (v0 < 4096) × (v1 < 4096) ⌝ ∗ ⌜ ((i : ℕ) → getD (now w) i 0 ≤ 64) ⌝ }
+fn hdr_one(out: &mut [u8; TEXELS], n: usize, w: &[u8; WEIGHTS], x: usize, v0: u16, v1: u16)
+    requires { ⌜ (n ≤ mostTexels) × (x ≤ mostTexels) × (v0 < 4096) × (v1 < 4096) ⌝ ∗ ⌜ ((i : ℕ) → getD (now w) i 0 ≤ 64) ⌝ }
     ensures { λ _. ⌜ now (out .exit) ≡ put (λ (i : ℕ). hdrChannel v0 v1 (getD (now (w .entry)) (x + i) 0)) 0 (eights n) (now (out .entry)) ⌝ }
 {
-    let m = (n + 7) / 8 * 8;
+    let m = eights(n);
     let mut i = 0;
     while i < m {
         out[i] = hdr_channel(v0, v1, w[x + i]);
@@ -42,12 +48,12 @@ fn hdr_one(out: &mut [u8; 144], n: usize, w: &[u8; 288], x: usize, v0: u16, v1: 
 }
 
 // The same where both endpoints have the number v, which no weight changes: the alpha of an opaque colour.
-fn hdr_flat(out: &mut [u8; 144], n: usize, v: u16)
-    requires { ⌜ (n ≤ 144) × (v < 4096) ⌝ }
+fn hdr_flat(out: &mut [u8; TEXELS], n: usize, v: u16)
+    requires { ⌜ (n ≤ mostTexels) × (v < 4096) ⌝ }
     ensures { λ _. ⌜ now (out .exit) ≡ put (λ (i : ℕ). hdrChannel v v 0) 0 (eights n) (now (out .entry)) ⌝ }
 {
     let x = hdr_channel(v, v, 0);
-    let m = (n + 7) / 8 * 8;
+    let m = eights(n);
     let mut i = 0;
     while i < m {
         out[i] = x;
@@ -57,22 +63,22 @@ fn hdr_flat(out: &mut [u8; 144], n: usize, v: u16)
 
 // The same of two partitions: a and b have the numbers of each.
 fn hdr_two(
-    out: &mut [u8; 144],
+    out: &mut [u8; TEXELS],
     n: usize,
-    w: &[u8; 288],
+    w: &[u8; WEIGHTS],
     x: usize,
-    map: &[u8; 144],
+    map: &[u8; TEXELS],
     a: [u16; 4],
     b: [u16; 4],
 )
-    requires { ⌜ (n ≤ 144) × (x ≤ 144) × Wide a × Wide b ⌝ ∗ ⌜ ((i : ℕ) → getD (now w) i 0 ≤ 64) ⌝ ∗ ⌜ ((i : ℕ) → getD (now map) i 0 < 2) ⌝ }
+    requires { ⌜ (n ≤ mostTexels) × (x ≤ mostTexels) × Wide a × Wide b ⌝ ∗ ⌜ ((i : ℕ) → getD (now w) i 0 ≤ 64) ⌝ ∗ ⌜ ((i : ℕ) → getD (now map) i 0 < 2) ⌝ }
     ensures { λ _. ⌜ now (out .exit) ≡ put (hdrAt a b (now (w .entry)) (now (map .entry)) x) 0 (eights n) (now (out .entry)) ⌝ }
 {
     let a0 = a[0];
     let a1 = a[1];
     let b0 = b[0];
     let b1 = b[1];
-    let m = (n + 7) / 8 * 8;
+    let m = eights(n);
     let mut i = 0;
     while i < m {
         let p = map[i];
@@ -83,15 +89,15 @@ fn hdr_two(
 
 // The same of any partitions.
 fn hdr_four(
-    out: &mut [u8; 144],
+    out: &mut [u8; TEXELS],
     n: usize,
-    w: &[u8; 288],
+    w: &[u8; WEIGHTS],
     x: usize,
-    map: &[u8; 144],
+    map: &[u8; TEXELS],
     a: [u16; 4],
     b: [u16; 4],
 )
-    requires { ⌜ (n ≤ 144) × (x ≤ 144) × Wide a × Wide b ⌝ ∗ ⌜ ((i : ℕ) → getD (now w) i 0 ≤ 64) ⌝ ∗ ⌜ ((i : ℕ) → getD (now map) i 0 < 4) ⌝ }
+    requires { ⌜ (n ≤ mostTexels) × (x ≤ mostTexels) × Wide a × Wide b ⌝ ∗ ⌜ ((i : ℕ) → getD (now w) i 0 ≤ 64) ⌝ ∗ ⌜ ((i : ℕ) → getD (now map) i 0 < 4) ⌝ }
     ensures { λ _. ⌜ now (out .exit) ≡ put (hdrAt a b (now (w .entry)) (now (map .entry)) x) 0 (eights n) (now (out .entry)) ⌝ }
 {
     let a0 = a[0];
@@ -102,7 +108,7 @@ fn hdr_four(
     let b1 = b[1];
     let b2 = b[2];
     let b3 = b[3];
-    let m = (n + 7) / 8 * 8;
+    let m = eights(n);
     let mut i = 0;
     while i < m {
         let p = map[i];
@@ -113,15 +119,15 @@ fn hdr_four(
 
 // One HDR channel of the texels, by its numbers in the partitions in use.
 fn hdr_bytes<'a>(
-    out: &mut [u8; 144],
+    out: &mut [u8; TEXELS],
     n: usize,
     parts: usize,
-    w: &'a [u8; 288],
+    w: &'a [u8; WEIGHTS],
     x: usize,
-    map: &'a [u8; 144],
+    map: &'a [u8; TEXELS],
     v: Numbers,
 )
-    requires { ⌜ (n ≤ 144) × (parts ≤ 4) × (x ≤ 144) × Wide (v .first) × Wide (v .second) ⌝ ∗ ⌜ ((i : ℕ) → getD (now w) i 0 ≤ 64) ⌝ ∗ ⌜ ((i : ℕ) → getD (now map) i 0 < parts) ⌝ }
+    requires { ⌜ (n ≤ mostTexels) × (parts ≤ 4) × (x ≤ mostTexels) × Wide (v .first) × Wide (v .second) ⌝ ∗ ⌜ ((i : ℕ) → getD (now w) i 0 ≤ 64) ⌝ ∗ ⌜ ((i : ℕ) → getD (now map) i 0 < parts) ⌝ }
     ensures { λ _. ⌜ now (out .exit) ≡ put (hdrAt (v .first) (v .second) (now (w .entry)) (now (map .entry)) x) 0 (eights n) (now (out .entry)) ⌝ }
 {
     let a = v.first;
@@ -193,7 +199,7 @@ fn alphas(ends: [Endpoints; 4]) -> Numbers
     }
 }
 
-// Half a word: two channels.
+// A lane: two channels.
 fn joined(low: u8, high: u8) -> u16
     ensures { λ r. ⌜ (r ≡ low + 256 * high) × (low < 256) × (high < 256) ⌝ }
 {
@@ -202,17 +208,17 @@ fn joined(low: u8, high: u8) -> u16
 
 // The words of four channels.
 fn join_all<'a>(
-    out: &mut [u16; 288],
+    out: &mut [u16; LANES],
     n: usize,
-    r: &'a [u8; 144],
-    g: &'a [u8; 144],
-    b: &'a [u8; 144],
-    a: &'a [u8; 144],
+    r: &'a [u8; TEXELS],
+    g: &'a [u8; TEXELS],
+    b: &'a [u8; TEXELS],
+    a: &'a [u8; TEXELS],
 )
-    requires { ⌜ n ≤ 144 ⌝ }
-    ensures { λ _. ⌜ now (out .exit) ≡ put (halfAt (wordAmong (now (r .entry)) (now (g .entry)) (now (b .entry)) (now (a .entry)))) 0 (2 * eights n) (now (out .entry)) ⌝ }
+    requires { ⌜ n ≤ mostTexels ⌝ }
+    ensures { λ _. ⌜ now (out .exit) ≡ put (laneAt (wordAmong (now (r .entry)) (now (g .entry)) (now (b .entry)) (now (a .entry)))) 0 (2 * eights n) (now (out .entry)) ⌝ }
 {
-    let m = (n + 7) / 8 * 8;
+    let m = eights(n);
     let mut i = 0;
     while i < m {
         out[2 * i] = joined(b[i], g[i]);
@@ -223,23 +229,23 @@ fn join_all<'a>(
 
 // HDR texels: one channel after the other, so that a loop has one kind of work.
 pub fn paint_hdr<'a>(
-    out: &mut [u16; 288],
+    out: &mut [u16; LANES],
     n: usize,
     parts: usize,
     planes: usize,
     channel: usize,
     ends: [Endpoints; 4],
-    w: &'a [u8; 288],
-    map: &'a [u8; 144],
+    w: &'a [u8; WEIGHTS],
+    map: &'a [u8; TEXELS],
 )
     requires { ⌜ Given n parts planes ends (now w) (now map) ⌝ ∗ ⌜ AllOf 1 parts ends ⌝ }
-    ensures { λ _. ⌜ now (out .exit) ≡ put (halfAt (texelWord ends (now (w .entry)) (now (map .entry)) planes channel)) 0 (2 * eights n) (now (out .entry)) ⌝ }
+    ensures { λ _. ⌜ now (out .exit) ≡ put (laneAt (texelWord ends (now (w .entry)) (now (map .entry)) planes channel)) 0 (2 * eights n) (now (out .entry)) ⌝ }
 {
     let k = starts_of(planes, channel);
-    let mut r = [0u8; 144];
-    let mut g = [0u8; 144];
-    let mut b = [0u8; 144];
-    let mut a = [0u8; 144];
+    let mut r = [0u8; TEXELS];
+    let mut g = [0u8; TEXELS];
+    let mut b = [0u8; TEXELS];
+    let mut a = [0u8; TEXELS];
     hdr_bytes(&mut r, n, parts, w, k.r, map, reds(ends));
     hdr_bytes(&mut g, n, parts, w, k.g, map, greens(ends));
     hdr_bytes(&mut b, n, parts, w, k.b, map, blues(ends));

@@ -9,17 +9,20 @@ use native.Mathlib.Omega.{arith}
 use lib.Dec.{eqb}
 use lib.ListN.{getD, set}
 use Rattle.laws.specs.Lists.{put}
+use Rattle.footprint.specs.Footprints.{mostTexels}
 use Rattle.endpoints_colours.specs.Bounds.{Within, limit}
 use Rattle.endpoints_colours.specs.Colours.{nothing}
 use Rattle.endpoints_colours.specs.declared.Mark.{Mark}
 use Rattle.endpoints_colours.specs.declared.Mark.the-variants.{Ldr}
 use Rattle.endpoints_colours.specs.declared.Endpoints.{Endpoints}
-use Rattle.texels.specs.Texels.{channelBy, wordBy, planeOf, texelWord, halfAt, eights}
+use Rattle.lanes.specs.Lanes.{laneAt, eights}
+use Rattle.texels.specs.Texels.{channelBy, wordBy, planeOf, texelWord}
 use Rattle.texels.specs.Given.{Given}
 use Rattle.texels.specs.Kinds.{startsOf, wordAt, kindOf, AllOf, eitherOf}
-use Rattle.texels.specs.PaintLaws.{low-half, high-half, two-stores}
+use Rattle.lanes.specs.LaneLaws.{two-stores}
+use Rattle.texels.specs.PaintLaws.{low-lane, high-lane}
 use Rattle.texels.specs.KindLaws.{both-ldr, either-entry}
-use Rattle.texels.specs.TexelLaws.{by-starts, painted}
+use Rattle.texels.specs.TexelLaws.{texel-is, by-starts, painted}
 use Rattle.texels.specs.declared.Starts.{Starts}
 use Rattle.texels_ldr.specs.Plain.{Plain, wordOne, ldrPair}
 
@@ -66,16 +69,16 @@ numbers-of e h p0 p1 p2 p3 p4 p5 p6 p7 = rw (p0, p1, p2, p3, p4, p5, p6, p7) (go
 module _ (e : Endpoints) (h : Plain e) (r g b a : ℕ) where
   ldr-low : wordBy e r g b a % 65536 ≡ ldrPair (e .b0) (e .b1) (e .g0) (e .g1) b g
   unfolding channelBy
-  ldr-low = low-half e r g b a ∙ rw (h .color)
+  ldr-low = low-lane e r g b a ∙ rw (h .color)
 
   ldr-high : wordBy e r g b a / 65536 ≡ ldrPair (e .r0) (e .r1) (e .a0) (e .a1) r a
   unfolding channelBy
-  ldr-high = high-half e r g b a ∙ rw (h .color, h .alpha)
+  ldr-high = high-lane e r g b a ∙ rw (h .color, h .alpha)
 
 -- the code's endpoints d and weights are the definition's e and its weights
-pub ldr-stores : (f : ℕ → ℕ) (d e : Endpoints) (i : ℕ) {r g b a r' g' b' a' x y : ℕ} (s t : List ℕ) → Plain e → t ≡ put (halfAt f) 0 (2 * i) s → wordBy e r' g' b' a' ≡ f i
+pub ldr-stores : (f : ℕ → ℕ) (d e : Endpoints) (i : ℕ) {r g b a r' g' b' a' x y : ℕ} (s t : List ℕ) → Plain e → t ≡ put (laneAt f) 0 (2 * i) s → wordBy e r' g' b' a' ≡ f i
     → d ≡ e → r ≡ r' → g ≡ g' → b ≡ b' → a ≡ a' → x ≡ ldrPair (d .b0) (d .b1) (d .g0) (d .g1) b g → y ≡ ldrPair (d .r0) (d .r1) (d .a0) (d .a1) r a
-    → set (set t (2 * i) x) (2 * i + 1) y ≡ put (halfAt f) 0 (2 * (i + 1)) s
+    → set (set t (2 * i) x) (2 * i + 1) y ≡ put (laneAt f) 0 (2 * (i + 1)) s
 ldr-stores f d e i {r' = r} {g' = g} {b' = b} {a' = a} {x} {y} s t h l q ed er eg eb ea p o =
     let low = rw (ed, eb, eg) at p in
     let high = rw (ed, er, ea) at o in
@@ -83,30 +86,29 @@ ldr-stores f d e i {r' = r} {g' = g} {b' = b} {a' = a} {x} {y} s t h l q ed er e
 
 -- ---- the forms of a texel's word
 -- of one plane, every channel's weights start at 0
-one-plane : (planes channel k i : ℕ) → planes ≡ 1 → 144 * planeOf planes channel k + i ≡ i
+one-plane : (planes channel k i : ℕ) → planes ≡ 1 → mostTexels * planeOf planes channel k + i ≡ i
 unfolding planeOf
 one-plane planes channel k i e = rw e (zero-add i)
 
 module _ (n parts planes channel : ℕ) (ends : List Endpoints) (weights map : List ℕ) (given : Given n parts planes ends weights map) where
   by-one : planes ≡ 1 → (i : ℕ) → wordOne (getD ends (getD map i 0) nothing) weights i ≡ texelWord ends weights map planes channel i
-  unfolding texelWord
-  by-one e i = rw (one-plane planes channel 0 i e, one-plane planes channel 1 i e, one-plane planes channel 2 i e, one-plane planes channel 3 i e)
+  by-one e i = rw (texel-is planes channel ends weights map i, one-plane planes channel 0 i e, one-plane planes channel 1 i e, one-plane planes channel 2 i e, one-plane planes channel 3 i e)
 
   -- of one partition every texel has the first's endpoints
   first : parts ≡ 1 → (i : ℕ) → getD map i 0 ≡ 0
   first e i = omega (arith, given .mapped i)
 
   module _ (out s : List ℕ) where
-    pub as-one : parts ≡ 1 → planes ≡ 1 → out ≡ put (halfAt (wordOne (getD ends 0 nothing) weights)) 0 (2 * eights n) s
-        → out ≡ put (halfAt (texelWord ends weights map planes channel)) 0 (2 * eights n) s
+    pub as-one : parts ≡ 1 → planes ≡ 1 → out ≡ put (laneAt (wordOne (getD ends 0 nothing) weights)) 0 (2 * eights n) s
+        → out ≡ put (laneAt (texelWord ends weights map planes channel)) 0 (2 * eights n) s
     as-one p q = painted planes channel ends weights map n out s _ (λ i. rw (first p i) at (by-one q i))
 
-    pub as-planes : (k : Starts) → k ≡ startsOf planes channel → parts ≡ 1 → out ≡ put (halfAt (wordAt (getD ends 0 nothing) weights k)) 0 (2 * eights n) s
-        → out ≡ put (halfAt (texelWord ends weights map planes channel)) 0 (2 * eights n) s
+    pub as-planes : (k : Starts) → k ≡ startsOf planes channel → parts ≡ 1 → out ≡ put (laneAt (wordAt (getD ends 0 nothing) weights k)) 0 (2 * eights n) s
+        → out ≡ put (laneAt (texelWord ends weights map planes channel)) 0 (2 * eights n) s
     as-planes k e p = painted planes channel ends weights map n out s _ (λ i. rw (first p i) at (by-starts planes channel ends weights map k e i))
 
-    pub as-two : parts ≡ 2 → planes ≡ 1 → out ≡ put (halfAt (λ (i : ℕ). wordOne (eitherOf (getD map i 0) (getD ends 0 nothing) (getD ends 1 nothing)) weights i)) 0 (2 * eights n) s
-        → out ≡ put (halfAt (texelWord ends weights map planes channel)) 0 (2 * eights n) s
+    pub as-two : parts ≡ 2 → planes ≡ 1 → out ≡ put (laneAt (λ (i : ℕ). wordOne (eitherOf (getD map i 0) (getD ends 0 nothing) (getD ends 1 nothing)) weights i)) 0 (2 * eights n) s
+        → out ≡ put (laneAt (texelWord ends weights map planes channel)) 0 (2 * eights n) s
     as-two p q =
         painted planes channel ends weights map n out s _ (λ i. let l : getD map i 0 < 2 = omega (arith, given .mapped i) in rw (either-entry ends nothing (getD map i 0) l) (by-one q i))
 

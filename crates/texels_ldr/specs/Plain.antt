@@ -36,6 +36,6 @@ pub record WeightsAt (weights : List ℕ) (k : Starts) (i : ℕ) (v : Weights) :
 abbrev pub wordOne : Endpoints → List ℕ → ℕ → ℕ
 wordOne e weights i = wordBy e (getD weights i 0) (getD weights i 0) (getD weights i 0) (getD weights i 0)
 
--- half a word: two LDR channels
+-- a lane: two LDR channels
 abbrev pub ldrPair : ℕ → ℕ → ℕ → ℕ → ℕ → ℕ → ℕ
 ldrPair x0 x1 y0 y1 v w = ldrChannel x0 x1 v + 256 * ldrChannel y0 y1 w

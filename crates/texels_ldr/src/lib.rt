@@ -3,13 +3,19 @@ ghost use mathlib.Core.Path.{_≡_};
 ghost use Prim.Native.Nat.{ℕ, _*_, _≤_, _<_};
 ghost use lib.ListN.{getD};
 ghost use Rattle.laws.specs.Lists.{put};
+ghost use Rattle.footprint.specs.Footprints.{mostTexels};
 ghost use Rattle.endpoints_colours.specs.Colours.{nothing};
-ghost use Rattle.texels.specs.Texels.{texelWord, halfAt, eights};
+ghost use Rattle.lanes.specs.Lanes.{laneAt, eights};
+ghost use Rattle.texels.specs.Texels.{texelWord};
 ghost use Rattle.texels.specs.Given.{Given};
 ghost use Rattle.texels.specs.Kinds.{Ahead, wordAt, AllOf, eitherOf, anyOf};
 ghost use Rattle.texels_ldr.specs.Plain.{WeightsAt, wordOne, Plain, ldrPair};
 use endpoints_colours::Endpoints;
 use endpoints_colours::Mark;
+use footprint::TEXELS;
+use footprint::WEIGHTS;
+use lanes::LANES;
+use lanes::eights;
 use texels::Starts;
 use texels::any;
 use texels::either;
@@ -30,8 +36,8 @@ fn wide(x: u8) -> u16
     x as u16
 }
 
-fn weights_at(w: &[u8; 288], k: Starts, i: usize) -> Weights
-    requires { ⌜ Ahead k × (i < 144) ⌝ ∗ ⌜ ((i : ℕ) → getD (now w) i 0 ≤ 64) ⌝ }
+fn weights_at(w: &[u8; WEIGHTS], k: Starts, i: usize) -> Weights
+    requires { ⌜ Ahead k × (i < mostTexels) ⌝ ∗ ⌜ ((i : ℕ) → getD (now w) i 0 ≤ 64) ⌝ }
     ensures { λ v. ⌜ WeightsAt (now (w .entry)) k i v ⌝ }
 {
     Weights {
@@ -42,7 +48,7 @@ fn weights_at(w: &[u8; 288], k: Starts, i: usize) -> Weights
     }
 }
 
-// Half a word: two LDR channels.
+// A lane: two LDR channels.
 fn pair(x0: u16, x1: u16, y0: u16, y1: u16, v: u16, w: u16) -> u16
     requires { ⌜ (x0 ≤ 255) × (x1 ≤ 255) × (y0 ≤ 255) × (y1 ≤ 255) × (v ≤ 64) × (w ≤ 64) ⌝ }
     ensures { λ r. ⌜ r ≡ ldrPair x0 x1 y0 y1 v w ⌝ }
@@ -51,11 +57,11 @@ fn pair(x0: u16, x1: u16, y0: u16, y1: u16, v: u16, w: u16) -> u16
 }
 
 // LDR texels of one partition and one plane.
-fn paint_one(out: &mut [u16; 288], n: usize, w: &[u8; 288], e: Endpoints)
-    requires { ⌜ (n ≤ 144) × Plain e ⌝ ∗ ⌜ ((i : ℕ) → getD (now w) i 0 ≤ 64) ⌝ }
-    ensures { λ _. ⌜ now (out .exit) ≡ put (halfAt (wordOne e (now (w .entry)))) 0 (2 * eights n) (now (out .entry)) ⌝ }
+fn paint_one(out: &mut [u16; LANES], n: usize, w: &[u8; WEIGHTS], e: Endpoints)
+    requires { ⌜ (n ≤ mostTexels) × Plain e ⌝ ∗ ⌜ ((i : ℕ) → getD (now w) i 0 ≤ 64) ⌝ }
+    ensures { λ _. ⌜ now (out .exit) ≡ put (laneAt (wordOne e (now (w .entry)))) 0 (2 * eights n) (now (out .entry)) ⌝ }
 {
-    let m = (n + 7) / 8 * 8;
+    let m = eights(n);
     let mut i = 0;
     while i < m {
         let x = wide(w[i]);
@@ -66,11 +72,11 @@ fn paint_one(out: &mut [u16; 288], n: usize, w: &[u8; 288], e: Endpoints)
 }
 
 // The same where each channel has the weights of its plane.
-fn paint_planes(out: &mut [u16; 288], n: usize, w: &[u8; 288], k: Starts, e: Endpoints)
-    requires { ⌜ (n ≤ 144) × Ahead k × Plain e ⌝ ∗ ⌜ ((i : ℕ) → getD (now w) i 0 ≤ 64) ⌝ }
-    ensures { λ _. ⌜ now (out .exit) ≡ put (halfAt (wordAt e (now (w .entry)) k)) 0 (2 * eights n) (now (out .entry)) ⌝ }
+fn paint_planes(out: &mut [u16; LANES], n: usize, w: &[u8; WEIGHTS], k: Starts, e: Endpoints)
+    requires { ⌜ (n ≤ mostTexels) × Ahead k × Plain e ⌝ ∗ ⌜ ((i : ℕ) → getD (now w) i 0 ≤ 64) ⌝ }
+    ensures { λ _. ⌜ now (out .exit) ≡ put (laneAt (wordAt e (now (w .entry)) k)) 0 (2 * eights n) (now (out .entry)) ⌝ }
 {
-    let m = (n + 7) / 8 * 8;
+    let m = eights(n);
     let mut i = 0;
     while i < m {
         let v = weights_at(w, k, i);
@@ -101,17 +107,17 @@ fn either_of(p: u8, a: Endpoints, b: Endpoints) -> Endpoints
 
 // LDR texels of two partitions and one plane.
 fn paint_two(
-    out: &mut [u16; 288],
+    out: &mut [u16; LANES],
     n: usize,
-    w: &[u8; 288],
-    map: &[u8; 144],
+    w: &[u8; WEIGHTS],
+    map: &[u8; TEXELS],
     e: Endpoints,
     f: Endpoints,
 )
-    requires { ⌜ (n ≤ 144) × Plain e × Plain f ⌝ ∗ ⌜ ((i : ℕ) → getD (now w) i 0 ≤ 64) ⌝ }
-    ensures { λ _. ⌜ now (out .exit) ≡ put (halfAt (λ (i : ℕ). wordOne (eitherOf (getD (now (map .entry)) i 0) e f) (now (w .entry)) i)) 0 (2 * eights n) (now (out .entry)) ⌝ }
+    requires { ⌜ (n ≤ mostTexels) × Plain e × Plain f ⌝ ∗ ⌜ ((i : ℕ) → getD (now w) i 0 ≤ 64) ⌝ }
+    ensures { λ _. ⌜ now (out .exit) ≡ put (laneAt (λ (i : ℕ). wordOne (eitherOf (getD (now (map .entry)) i 0) e f) (now (w .entry)) i)) 0 (2 * eights n) (now (out .entry)) ⌝ }
 {
-    let m = (n + 7) / 8 * 8;
+    let m = eights(n);
     let mut i = 0;
     while i < m {
         let v = wide(w[i]);
@@ -143,21 +149,21 @@ fn any_of(p: u8, a: Endpoints, b: Endpoints, c: Endpoints, d: Endpoints) -> Endp
 
 // LDR texels of any partitions and planes.
 fn paint_four(
-    out: &mut [u16; 288],
+    out: &mut [u16; LANES],
     n: usize,
-    w: &[u8; 288],
+    w: &[u8; WEIGHTS],
     k: Starts,
-    map: &[u8; 144],
+    map: &[u8; TEXELS],
     ends: [Endpoints; 4],
 )
-    requires { ⌜ (n ≤ 144) × Ahead k ⌝ ∗ ⌜ ((i : ℕ) → getD (now w) i 0 ≤ 64) ⌝ ∗ ⌜ ((i : ℕ) → getD (now map) i 0 < 4) ⌝ ∗ ⌜ ((i : ℕ) → Plain (getD ends (getD (now map) i 0) nothing)) ⌝ }
-    ensures { λ _. ⌜ now (out .exit) ≡ put (halfAt (λ (i : ℕ). wordAt (getD ends (getD (now (map .entry)) i 0) nothing) (now (w .entry)) k i)) 0 (2 * eights n) (now (out .entry)) ⌝ }
+    requires { ⌜ (n ≤ mostTexels) × Ahead k ⌝ ∗ ⌜ ((i : ℕ) → getD (now w) i 0 ≤ 64) ⌝ ∗ ⌜ ((i : ℕ) → getD (now map) i 0 < 4) ⌝ ∗ ⌜ ((i : ℕ) → Plain (getD ends (getD (now map) i 0) nothing)) ⌝ }
+    ensures { λ _. ⌜ now (out .exit) ≡ put (laneAt (λ (i : ℕ). wordAt (getD ends (getD (now (map .entry)) i 0) nothing) (now (w .entry)) k i)) 0 (2 * eights n) (now (out .entry)) ⌝ }
 {
     let e0 = ends[0];
     let e1 = ends[1];
     let e2 = ends[2];
     let e3 = ends[3];
-    let m = (n + 7) / 8 * 8;
+    let m = eights(n);
     let mut i = 0;
     while i < m {
         let v = weights_at(w, k, i);
@@ -170,17 +176,17 @@ fn paint_four(
 
 // LDR texels, by the fewest partitions and planes that do.
 pub fn paint_ldr<'a>(
-    out: &mut [u16; 288],
+    out: &mut [u16; LANES],
     n: usize,
     parts: usize,
     planes: usize,
     channel: usize,
     ends: [Endpoints; 4],
-    w: &'a [u8; 288],
-    map: &'a [u8; 144],
+    w: &'a [u8; WEIGHTS],
+    map: &'a [u8; TEXELS],
 )
     requires { ⌜ Given n parts planes ends (now w) (now map) ⌝ ∗ ⌜ AllOf 0 parts ends ⌝ }
-    ensures { λ _. ⌜ now (out .exit) ≡ put (halfAt (texelWord ends (now (w .entry)) (now (map .entry)) planes channel)) 0 (2 * eights n) (now (out .entry)) ⌝ }
+    ensures { λ _. ⌜ now (out .exit) ≡ put (laneAt (texelWord ends (now (w .entry)) (now (map .entry)) planes channel)) 0 (2 * eights n) (now (out .entry)) ⌝ }
 {
     if parts == 1 {
         if planes == 1 {

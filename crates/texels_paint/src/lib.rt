@@ -2,11 +2,15 @@
 ghost use mathlib.Core.Path.{_≡_};
 ghost use Prim.Native.Nat.{_*_, _≤_, _<_};
 ghost use Rattle.laws.specs.Lists.{put};
-ghost use Rattle.texels.specs.Texels.{texelWord, halfAt, eights};
+ghost use Rattle.lanes.specs.Lanes.{laneAt, eights};
+ghost use Rattle.texels.specs.Texels.{texelWord};
 ghost use Rattle.texels.specs.Given.{Given};
 ghost use Rattle.texels.specs.Kinds.{kindOf, AllOf};
 use endpoints_colours::Endpoints;
 use endpoints_colours::Mark;
+use footprint::TEXELS;
+use footprint::WEIGHTS;
+use lanes::LANES;
 use texels::starts_of;
 
 mod mixed;
@@ -46,20 +50,20 @@ fn common_kind(parts: usize, ends: [Endpoints; 4]) -> u8
     k
 }
 
-// The words of n texels, to the next multiple of 8, in halves: half 2 * i is the low one of texel i, half 2 * i + 1 the high one.
+// The words of n texels, to the next multiple of 8, in lanes: lane 2 * i has the low 16 bits of texel i, lane 2 * i + 1 the high ones.
 // w has the weights of both planes, map each texel's partition.
 pub fn applicate_color<'a>(
-    out: &mut [u16; 288],
+    out: &mut [u16; LANES],
     n: usize,
     parts: usize,
     planes: usize,
     channel: usize,
     ends: [Endpoints; 4],
-    w: &'a [u8; 288],
-    map: &'a [u8; 144],
+    w: &'a [u8; WEIGHTS],
+    map: &'a [u8; TEXELS],
 )
     requires { ⌜ Given n parts planes ends (now w) (now map) ⌝ }
-    ensures { λ _. ⌜ now (out .exit) ≡ put (halfAt (texelWord ends (now (w .entry)) (now (map .entry)) planes channel)) 0 (2 * eights n) (now (out .entry)) ⌝ }
+    ensures { λ _. ⌜ now (out .exit) ≡ put (laneAt (texelWord ends (now (w .entry)) (now (map .entry)) planes channel)) 0 (2 * eights n) (now (out .entry)) ⌝ }
 {
     let kind = common_kind(parts, ends);
     if kind == 0 {

@@ -3,12 +3,18 @@ ghost use mathlib.Core.Path.{_≡_};
 ghost use Prim.Native.Nat.{ℕ, _*_, _/_, _%_, _≤_, _<_};
 ghost use lib.ListN.{getD};
 ghost use Rattle.laws.specs.Lists.{put};
+ghost use Rattle.footprint.specs.Footprints.{mostTexels};
 ghost use Rattle.endpoints_colours.specs.Bounds.{Within, limit};
 ghost use Rattle.endpoints_colours.specs.Colours.{nothing};
-ghost use Rattle.texels.specs.Texels.{channelBy, wordBy, halfAt, eights};
+ghost use Rattle.lanes.specs.Lanes.{laneAt, eights};
+ghost use Rattle.texels.specs.Texels.{channelBy, wordBy};
 ghost use Rattle.texels.specs.Kinds.{Ahead, wordAt};
 use endpoints_colours::Endpoints;
 use endpoints_colours::Mark;
+use footprint::TEXELS;
+use footprint::WEIGHTS;
+use lanes::LANES;
+use lanes::eights;
 use texels::Starts;
 use texels::hdr_channel;
 
@@ -65,17 +71,17 @@ fn high(x: u32) -> u16
 
 // Each texel by the marks of its partition.
 pub(crate) fn paint_any(
-    out: &mut [u16; 288],
+    out: &mut [u16; LANES],
     n: usize,
-    w: &[u8; 288],
+    w: &[u8; WEIGHTS],
     k: Starts,
-    map: &[u8; 144],
+    map: &[u8; TEXELS],
     ends: [Endpoints; 4],
 )
-    requires { ⌜ (n ≤ 144) × Ahead k ⌝ ∗ ⌜ ((i : ℕ) → Within (getD ends i nothing)) ⌝ ∗ ⌜ ((i : ℕ) → getD (now w) i 0 ≤ 64) ⌝ ∗ ⌜ ((i : ℕ) → getD (now map) i 0 < 4) ⌝ }
-    ensures { λ _. ⌜ now (out .exit) ≡ put (halfAt (λ (i : ℕ). wordAt (getD ends (getD (now (map .entry)) i 0) nothing) (now (w .entry)) k i)) 0 (2 * eights n) (now (out .entry)) ⌝ }
+    requires { ⌜ (n ≤ mostTexels) × Ahead k ⌝ ∗ ⌜ ((i : ℕ) → Within (getD ends i nothing)) ⌝ ∗ ⌜ ((i : ℕ) → getD (now w) i 0 ≤ 64) ⌝ ∗ ⌜ ((i : ℕ) → getD (now map) i 0 < 4) ⌝ }
+    ensures { λ _. ⌜ now (out .exit) ≡ put (laneAt (λ (i : ℕ). wordAt (getD ends (getD (now (map .entry)) i 0) nothing) (now (w .entry)) k i)) 0 (2 * eights n) (now (out .entry)) ⌝ }
 {
-    let m = (n + 7) / 8 * 8;
+    let m = eights(n);
     let mut i = 0;
     while i < m {
         let e = ends[place(map[i])];

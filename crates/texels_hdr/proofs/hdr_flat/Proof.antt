@@ -3,7 +3,7 @@ use mathlib.Core.Path.{_≡_}
 use Prim.Native.Nat.{ℕ, _-_, _≤_, zero-le}
 use Rattle.laws.specs.Lists.{put, put-none, put-turn, put-end}
 use Rattle.blend.specs.Blend.{hdrChannel}
-use Rattle.texels.specs.Texels.{eights}
+use Rattle.lanes.specs.Lanes.{eights}
 use native.Mathlib.Omega.{arith}
 use Rattle.texels_hdr.proofs.hdr_flat.Statement.{statement}
 use Rattle.texels_hdr.proofs.hdr_flat.Tie as tie
@@ -17,11 +17,8 @@ abbrev μ-loop : tie.MeasureT-loop
 hdr-channel-requires : tie.Need-hdr-channel-requires Inv-loop μ-loop
 hdr-channel-requires c κs = (c .pre .1, c .pre .1, omega arith)
 
-add-m : tie.Need-add-m Inv-loop μ-loop
-add-m c = omega arith
-
-mul-m : tie.Need-mul-m Inv-loop μ-loop
-mul-m c = omega arith
+eights-requires : tie.Need-eights-requires Inv-loop μ-loop
+eights-requires c κs = omega arith
 
 loop-holds : tie.Need-loop-holds Inv-loop μ-loop
 loop-holds c = (zero-le, put-none _ 0 _)
@@ -36,7 +33,7 @@ loop-less : tie.Need-loop-less Inv-loop μ-loop
 loop-less c = omega arith
 
 loop-again : tie.Need-loop-again Inv-loop μ-loop
-loop-again c = (omega arith, put-turn _ _ _ _ _ _ (c .before .loop .inv .1) zero-le (c .before .before .hdr-channel .ensures))
+loop-again c = (omega arith, put-turn _ _ _ _ _ _ (c .before .loop .inv .1) zero-le (c .before .before .before .hdr-channel .ensures))
 
 returns : tie.Need-returns Inv-loop μ-loop
 returns c = put-end _ _ _ _ _ _ (c .before .loop .inv .1) (omega arith) (omega arith)
@@ -48,8 +45,7 @@ hdr-flat-spec =
     Inv-loop
     μ-loop
     hdr-channel-requires
-    add-m
-    mul-m
+    eights-requires
     loop-holds
     element-write-out
     add-i

@@ -5,7 +5,7 @@ use Prim.Native.Nat.{ℕ, _+_, _-_, _≤_, zero-le}
 use lib.ListN.{getD}
 use Rattle.laws.specs.Lists.{put, put-none, put-turn, put-end, put-same}
 use Rattle.blend.specs.Blend.{hdrChannel}
-use Rattle.texels.specs.Texels.{eights}
+use Rattle.lanes.specs.Lanes.{eights}
 use Rattle.texels.specs.Kinds.{anyOf}
 use native.Mathlib.Omega.{arith}
 use Rattle.texels_hdr.proofs.hdr_four.Statement.{statement}
@@ -42,11 +42,8 @@ array-read-b2 c = omega arith
 array-read-b3 : tie.Need-array-read-b3 Inv-loop μ-loop
 array-read-b3 c = omega arith
 
-add-m : tie.Need-add-m Inv-loop μ-loop
-add-m c = omega arith
-
-mul-m : tie.Need-mul-m Inv-loop μ-loop
-mul-m c = omega arith
+eights-requires : tie.Need-eights-requires Inv-loop μ-loop
+eights-requires c κs = omega arith
 
 loop-holds : tie.Need-loop-holds Inv-loop μ-loop
 loop-holds c = (zero-le, put-none _ 0 _)
@@ -55,10 +52,10 @@ element-copy-out-p : tie.Need-element-copy-out-p Inv-loop μ-loop
 element-copy-out-p c = omega arith
 
 any-requires : tie.Need-any-requires Inv-loop μ-loop
-any-requires c κs = c .before .before .before .pre .1 .1 (c .before .before .loop .i)
+any-requires c κs = c .before .before .before .before .pre .1 .1 (c .before .before .loop .i)
 
 any-requires-2 : tie.Need-any-requires-2 Inv-loop μ-loop
-any-requires-2 c κs = c .before .before .before .before .pre .1 .1 (c .before .before .before .loop .i)
+any-requires-2 c κs = c .before .before .before .before .before .pre .1 .1 (c .before .before .before .loop .i)
 
 add-hdr-channel : tie.Need-add-hdr-channel Inv-loop μ-loop
 add-hdr-channel c = omega arith
@@ -68,7 +65,7 @@ element-copy-out-hdr-channel c = omega arith
 
 hdr-channel-requires : tie.Need-hdr-channel-requires Inv-loop μ-loop
 hdr-channel-requires c κs =
-    let s = c .before .before .before .before .before .before in
+    let s = c .before .before .before .before .before .before .before in
     let i = c .before .before .before .before .before .loop .i in
     let p = getD (s .args .map .now) i 0 in
     let h = s .pre .1 .1 i in
@@ -90,7 +87,7 @@ loop-again c = (omega arith, put-turn _ _ _ _ _ _ (c .before .before .before .be
 
 returns : tie.Need-returns Inv-loop μ-loop
 returns c =
-    let s = c .before .before in
+    let s = c .before .before .before in
     put-end _ _ _ (eights (s .args .n)) _ _ (c .before .loop .inv .1) (omega arith) (omega arith)
     ∙ put-same _ _ 0 (eights (s .args .n)) _ (λ i l h. rw (any-entry (s .args .t6) 0 (getD (s .args .map .now) i 0) (s .pre .1 .1 i), any-entry (s .args .t7) 0 (getD (s .args .map .now) i 0) (s .pre .1 .1 i)))
 
@@ -108,8 +105,7 @@ hdr-four-spec =
     array-read-b1
     array-read-b2
     array-read-b3
-    add-m
-    mul-m
+    eights-requires
     loop-holds
     element-copy-out-p
     any-requires

@@ -4,7 +4,7 @@ use Prim.Native.Nat.{ℕ, _+_, _-_, _≤_, zero-le}
 use lib.ListN.{getD}
 use Rattle.laws.specs.Lists.{put, put-none, put-turn, put-end}
 use Rattle.blend.specs.Blend.{hdrChannel}
-use Rattle.texels.specs.Texels.{eights}
+use Rattle.lanes.specs.Lanes.{eights}
 use native.Mathlib.Omega.{arith}
 use Rattle.texels_hdr.proofs.hdr_one.Statement.{statement}
 use Rattle.texels_hdr.proofs.hdr_one.Tie as tie
@@ -16,11 +16,8 @@ Inv-loop out₀ n w x v0 v1 m i₀ out i =
 abbrev μ-loop : tie.MeasureT-loop
 μ-loop out₀ n w x v0 v1 m i₀ out i = eights n - i
 
-add-m : tie.Need-add-m Inv-loop μ-loop
-add-m c = omega arith
-
-mul-m : tie.Need-mul-m Inv-loop μ-loop
-mul-m c = omega arith
+eights-requires : tie.Need-eights-requires Inv-loop μ-loop
+eights-requires c κs = omega arith
 
 loop-holds : tie.Need-loop-holds Inv-loop μ-loop
 loop-holds c = (zero-le, put-none _ 0 _)
@@ -32,7 +29,7 @@ element-copy-out-hdr-channel : tie.Need-element-copy-out-hdr-channel Inv-loop μ
 element-copy-out-hdr-channel c = omega arith
 
 hdr-channel-requires : tie.Need-hdr-channel-requires Inv-loop μ-loop
-hdr-channel-requires c κs = let s = c .before .before .before in (s .pre .0 .2, s .pre .0 .3, s .pre .1 (s .args .x + c .before .before .loop .i))
+hdr-channel-requires c κs = let s = c .before .before .before .before in (s .pre .0 .2, s .pre .0 .3, s .pre .1 (s .args .x + c .before .before .loop .i))
 
 element-write-out : tie.Need-element-write-out Inv-loop μ-loop
 element-write-out c = omega arith
@@ -55,8 +52,7 @@ hdr-one-spec =
     (tie.spec
     Inv-loop
     μ-loop
-    add-m
-    mul-m
+    eights-requires
     loop-holds
     add-hdr-channel
     element-copy-out-hdr-channel

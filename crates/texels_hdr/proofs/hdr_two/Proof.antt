@@ -5,7 +5,7 @@ use Prim.Native.Nat.{ℕ, _+_, _-_, _≤_, zero-le}
 use lib.ListN.{getD}
 use Rattle.laws.specs.Lists.{put, put-none, put-turn, put-end, put-same}
 use Rattle.blend.specs.Blend.{hdrChannel}
-use Rattle.texels.specs.Texels.{eights}
+use Rattle.lanes.specs.Lanes.{eights}
 use Rattle.texels.specs.Kinds.{eitherOf}
 use native.Mathlib.Omega.{arith}
 use Rattle.texels_hdr.proofs.hdr_two.Statement.{statement}
@@ -30,11 +30,8 @@ array-read-b0 c = omega arith
 array-read-b1 : tie.Need-array-read-b1 Inv-loop μ-loop
 array-read-b1 c = omega arith
 
-add-m : tie.Need-add-m Inv-loop μ-loop
-add-m c = omega arith
-
-mul-m : tie.Need-mul-m Inv-loop μ-loop
-mul-m c = omega arith
+eights-requires : tie.Need-eights-requires Inv-loop μ-loop
+eights-requires c κs = omega arith
 
 loop-holds : tie.Need-loop-holds Inv-loop μ-loop
 loop-holds c = (zero-le, put-none _ 0 _)
@@ -56,7 +53,7 @@ element-copy-out-hdr-channel c = omega arith
 
 hdr-channel-requires : tie.Need-hdr-channel-requires Inv-loop μ-loop
 hdr-channel-requires c κs =
-    let s = c .before .before .before .before .before .before in
+    let s = c .before .before .before .before .before .before .before in
     let i = c .before .before .before .before .before .loop .i in
     let p = getD (s .args .map .now) i 0 in
     let h = s .pre .1 .1 i in
@@ -78,7 +75,7 @@ loop-again c = (omega arith, put-turn _ _ _ _ _ _ (c .before .before .before .be
 
 returns : tie.Need-returns Inv-loop μ-loop
 returns c =
-    let s = c .before .before in
+    let s = c .before .before .before in
     put-end _ _ _ (eights (s .args .n)) _ _ (c .before .loop .inv .1) (omega arith) (omega arith)
     ∙ put-same _ _ 0 (eights (s .args .n)) _ (λ i l h. rw (either-entry (s .args .t6) 0 (getD (s .args .map .now) i 0) (s .pre .1 .1 i), either-entry (s .args .t7) 0 (getD (s .args .map .now) i 0) (s .pre .1 .1 i)))
 
@@ -92,8 +89,7 @@ hdr-two-spec =
     array-read-a1
     array-read-b0
     array-read-b1
-    add-m
-    mul-m
+    eights-requires
     loop-holds
     element-copy-out-p
     either-requires

@@ -1,9 +1,9 @@
--- The halves before 2 * i are those of the texels before i.
+-- The lanes before 2 * i are those of the texels before i.
 use Rattle.texels.specs.PaintLaws.{byte-stores}
 use mathlib.Core.Path.{_≡_, refl}
 use Prim.Native.Nat.{_*_, _-_, _≤_, zero-le}
 use Rattle.laws.specs.Lists.{put, put-none}
-use Rattle.texels.specs.Texels.{halfAt, eights}
+use Rattle.lanes.specs.Lanes.{laneAt, eights}
 use Rattle.texels_hdr.specs.Channels.{wordAmong}
 use native.Mathlib.Omega.{arith}
 use Rattle.texels_hdr.proofs.join_all.Statement.{statement}
@@ -11,16 +11,13 @@ use Rattle.texels_hdr.proofs.join_all.Tie as tie
 
 abbrev Inv-loop : tie.InvT-loop
 Inv-loop out₀ n r g b a m i₀ out i =
-    (i ≤ eights n) × (out ≡ put (halfAt (wordAmong r g b a)) 0 (2 * i) out₀)
+    (i ≤ eights n) × (out ≡ put (laneAt (wordAmong r g b a)) 0 (2 * i) out₀)
 
 abbrev μ-loop : tie.MeasureT-loop
 μ-loop out₀ n r g b a m i₀ out i = eights n - i
 
-add-m : tie.Need-add-m Inv-loop μ-loop
-add-m c = omega arith
-
-mul-m : tie.Need-mul-m Inv-loop μ-loop
-mul-m c = omega arith
+eights-requires : tie.Need-eights-requires Inv-loop μ-loop
+eights-requires c κs = omega arith
 
 loop-holds : tie.Need-loop-holds Inv-loop μ-loop
 loop-holds c = (zero-le, put-none _ 0 _)
@@ -78,7 +75,7 @@ loop-again c =
 
 returns : tie.Need-returns Inv-loop μ-loop
 returns c =
-    let e : c .before .loop .i ≡ eights (c .before .before .args .n) = omega arith in
+    let e : c .before .loop .i ≡ eights (c .before .before .before .args .n) = omega arith in
     rw e at (c .before .loop .inv .1)
 
 pub join-all-spec : {M : Type 1} → statement M
@@ -87,8 +84,7 @@ join-all-spec =
     (tie.spec
     Inv-loop
     μ-loop
-    add-m
-    mul-m
+    eights-requires
     loop-holds
     element-copy-out-joined
     element-copy-out-joined-2

@@ -1,13 +1,13 @@
--- The halves before 2 * i are those of the texels before i.
+-- The lanes before 2 * i are those of the texels before i.
 use mathlib.Core.Path.{_≡_, refl, _∙_}
 use Prim.Native.Nat.{ℕ, _*_, _-_, _≤_, zero-le}
 use lib.ListN.{getD}
 use Rattle.laws.specs.Lists.{put, put-none}
 use Rattle.endpoints_colours.specs.Colours.{nothing}
-use Rattle.texels.specs.Texels.{halfAt, eights}
+use Rattle.lanes.specs.Lanes.{laneAt, eights}
 use Rattle.texels.specs.Kinds.{wordAt, anyOf}
 use Rattle.texels.specs.KindLaws.{any-entry}
-use Rattle.texels.specs.PaintLaws.{put-halves}
+use Rattle.lanes.specs.LaneLaws.{put-lanes}
 use Rattle.texels_ldr.specs.Plain.{Plain}
 use Rattle.texels_ldr.specs.LdrLaws.{ldr-stores}
 use native.Mathlib.Omega.{arith}
@@ -16,7 +16,7 @@ use Rattle.texels_ldr.proofs.paint_four.Tie as tie
 
 abbrev Inv-loop : tie.InvT-loop
 Inv-loop out₀ n w k map e0 e1 e2 e3 m i₀ out i =
-    (i ≤ eights n) × (out ≡ put (halfAt (λ (i : ℕ). wordAt (anyOf (getD map i 0) e0 e1 e2 e3 nothing) w k i)) 0 (2 * i) out₀)
+    (i ≤ eights n) × (out ≡ put (laneAt (λ (i : ℕ). wordAt (anyOf (getD map i 0) e0 e1 e2 e3 nothing) w k i)) 0 (2 * i) out₀)
 
 abbrev μ-loop : tie.MeasureT-loop
 μ-loop out₀ n w k map e0 e1 e2 e3 m i₀ out i = eights n - i
@@ -34,28 +34,25 @@ array-copy-out-e3 : tie.Need-array-copy-out-e3 Inv-loop μ-loop
 array-copy-out-e3 c = omega arith
 
 -- the endpoints of the texel's partition
-plain : (c : tie.In-loop Inv-loop μ-loop) → Plain (anyOf (getD (c .before .before .before .before .before .before .args .map .now) (c .before .loop .i) 0) (getD (c .before .before .before .before .before .before .args .t6) 0 nothing) (getD (c .before .before .before .before .before .before .args .t6) 1 nothing) (getD (c .before .before .before .before .before .before .args .t6) 2 nothing) (getD (c .before .before .before .before .before .before .args .t6) 3 nothing) nothing)
+plain : (c : tie.In-loop Inv-loop μ-loop) → Plain (anyOf (getD (c .before .before .before .before .before .before .before .args .map .now) (c .before .loop .i) 0) (getD (c .before .before .before .before .before .before .before .args .t6) 0 nothing) (getD (c .before .before .before .before .before .before .before .args .t6) 1 nothing) (getD (c .before .before .before .before .before .before .before .args .t6) 2 nothing) (getD (c .before .before .before .before .before .before .before .args .t6) 3 nothing) nothing)
 plain c =
-    let s = c .before .before .before .before .before .before in
+    let s = c .before .before .before .before .before .before .before in
     rw (any-entry (s .args .t6) nothing (getD (s .args .map .now) (c .before .loop .i) 0) (s .pre .1 .1 .0 (c .before .loop .i))) (s .pre .1 .1 .1 (c .before .loop .i))
 
-add-m : tie.Need-add-m Inv-loop μ-loop
-add-m c = omega arith
-
-mul-m : tie.Need-mul-m Inv-loop μ-loop
-mul-m c = omega arith
+eights-requires : tie.Need-eights-requires Inv-loop μ-loop
+eights-requires c κs = omega arith
 
 loop-holds : tie.Need-loop-holds Inv-loop μ-loop
 loop-holds c = (zero-le, put-none _ 0 _)
 
 weights-at-requires : tie.Need-weights-at-requires Inv-loop μ-loop
-weights-at-requires c κs = let s = c .before .before .before .before .before .before in ((s .pre .0 .1, omega arith), s .pre .1 .0)
+weights-at-requires c κs = let s = c .before .before .before .before .before .before .before in ((s .pre .0 .1, omega arith), s .pre .1 .0)
 
 element-copy-out-any-of : tie.Need-element-copy-out-any-of Inv-loop μ-loop
 element-copy-out-any-of c = omega arith
 
 any-of-requires : tie.Need-any-of-requires Inv-loop μ-loop
-any-of-requires c κs = (c .before .before .before .before .before .before .before .before .pre .1 .1 .0 (c .before .before .before .loop .i), plain (c .before .before))
+any-of-requires c κs = (c .before .before .before .before .before .before .before .before .before .pre .1 .1 .0 (c .before .before .before .loop .i), plain (c .before .before))
 
 pair-requires : tie.Need-pair-requires Inv-loop μ-loop
 pair-requires c κs =
@@ -101,10 +98,10 @@ loop-again c =
 
 returns : tie.Need-returns Inv-loop μ-loop
 returns c =
-    let s = c .before .before .before .before .before .before in
+    let s = c .before .before .before .before .before .before .before in
     let e : c .before .loop .i ≡ eights (s .args .n) = omega arith in
     rw e at (c .before .loop .inv .1)
-    ∙ put-halves _ _ (eights (s .args .n)) _ (λ i h. rw (any-entry (s .args .t6) nothing (getD (s .args .map .now) i 0) (s .pre .1 .1 .0 i)))
+    ∙ put-lanes _ _ (eights (s .args .n)) _ (λ i h. rw (any-entry (s .args .t6) nothing (getD (s .args .map .now) i 0) (s .pre .1 .1 .0 i)))
 
 pub paint-four-spec : {M : Type 1} → statement M
 paint-four-spec =
@@ -116,8 +113,7 @@ paint-four-spec =
     array-copy-out-e1
     array-copy-out-e2
     array-copy-out-e3
-    add-m
-    mul-m
+    eights-requires
     loop-holds
     weights-at-requires
     element-copy-out-any-of

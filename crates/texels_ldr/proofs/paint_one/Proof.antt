@@ -1,8 +1,8 @@
--- The halves before 2 * i are those of the texels before i.
+-- The lanes before 2 * i are those of the texels before i.
 use mathlib.Core.Path.{_≡_, refl}
 use Prim.Native.Nat.{_*_, _-_, _≤_, zero-le}
 use Rattle.laws.specs.Lists.{put, put-none}
-use Rattle.texels.specs.Texels.{halfAt, eights}
+use Rattle.lanes.specs.Lanes.{laneAt, eights}
 use Rattle.texels_ldr.specs.Plain.{wordOne}
 use Rattle.texels_ldr.specs.LdrLaws.{ldr-stores}
 use native.Mathlib.Omega.{arith}
@@ -11,16 +11,13 @@ use Rattle.texels_ldr.proofs.paint_one.Tie as tie
 
 abbrev Inv-loop : tie.InvT-loop
 Inv-loop out₀ n w e m i₀ out i =
-    (i ≤ eights n) × (out ≡ put (halfAt (wordOne e w)) 0 (2 * i) out₀)
+    (i ≤ eights n) × (out ≡ put (laneAt (wordOne e w)) 0 (2 * i) out₀)
 
 abbrev μ-loop : tie.MeasureT-loop
 μ-loop out₀ n w e m i₀ out i = eights n - i
 
-add-m : tie.Need-add-m Inv-loop μ-loop
-add-m c = omega arith
-
-mul-m : tie.Need-mul-m Inv-loop μ-loop
-mul-m c = omega arith
+eights-requires : tie.Need-eights-requires Inv-loop μ-loop
+eights-requires c κs = omega arith
 
 loop-holds : tie.Need-loop-holds Inv-loop μ-loop
 loop-holds c = (zero-le, put-none _ 0 _)
@@ -32,7 +29,7 @@ wide-requires : tie.Need-wide-requires Inv-loop μ-loop
 wide-requires c κs = omega arith
 
 pair-requires : tie.Need-pair-requires Inv-loop μ-loop
-pair-requires c κs = omega (arith, c .before .before .before .before .pre .1 (c .before .before .before .loop .i))
+pair-requires c κs = omega (arith, c .before .before .before .before .before .pre .1 (c .before .before .before .loop .i))
 
 mul-out : tie.Need-mul-out Inv-loop μ-loop
 mul-out c = omega arith
@@ -44,7 +41,7 @@ element-write-out : tie.Need-element-write-out Inv-loop μ-loop
 element-write-out c = omega arith
 
 pair-requires-2 : tie.Need-pair-requires-2 Inv-loop μ-loop
-pair-requires-2 c κs = omega (arith, c .before .before .before .before .before .pre .1 (c .before .before .before .before .loop .i))
+pair-requires-2 c κs = omega (arith, c .before .before .before .before .before .before .pre .1 (c .before .before .before .before .loop .i))
 
 mul-out-3 : tie.Need-mul-out-3 Inv-loop μ-loop
 mul-out-3 c = omega arith
@@ -67,12 +64,12 @@ loop-less c = omega arith
 loop-again : tie.Need-loop-again Inv-loop μ-loop
 loop-again c =
     let e = c .before .before .wide .ensures .0 in
-    let s = c .before .before .before .before .before .before in
+    let s = c .before .before .before .before .before .before .before in
     (omega arith, ldr-stores _ (s .args .e) (s .args .e) _ _ _ (s .pre .0 .1) (c .before .before .before .before .before .loop .inv .1) refl refl e e e e (c .before .pair .ensures) (c .pair2 .ensures))
 
 returns : tie.Need-returns Inv-loop μ-loop
 returns c =
-    let e : c .before .loop .i ≡ eights (c .before .before .args .n) = omega arith in
+    let e : c .before .loop .i ≡ eights (c .before .before .before .args .n) = omega arith in
     rw e at (c .before .loop .inv .1)
 
 pub paint-one-spec : {M : Type 1} → statement M
@@ -81,8 +78,7 @@ paint-one-spec =
     (tie.spec
     Inv-loop
     μ-loop
-    add-m
-    mul-m
+    eights-requires
     loop-holds
     element-copy-out-wide
     wide-requires

@@ -1,8 +1,8 @@
--- The halves before 2 * i are those of the texels before i.
+-- The lanes before 2 * i are those of the texels before i.
 use mathlib.Core.Path.{_≡_, refl}
 use Prim.Native.Nat.{_*_, _-_, _≤_, zero-le}
 use Rattle.laws.specs.Lists.{put, put-none}
-use Rattle.texels.specs.Texels.{halfAt, eights}
+use Rattle.lanes.specs.Lanes.{laneAt, eights}
 use Rattle.texels.specs.Kinds.{wordAt}
 use Rattle.texels_ldr.specs.LdrLaws.{ldr-stores}
 use native.Mathlib.Omega.{arith}
@@ -11,22 +11,19 @@ use Rattle.texels_ldr.proofs.paint_planes.Tie as tie
 
 abbrev Inv-loop : tie.InvT-loop
 Inv-loop out₀ n w k e m i₀ out i =
-    (i ≤ eights n) × (out ≡ put (halfAt (wordAt e w k)) 0 (2 * i) out₀)
+    (i ≤ eights n) × (out ≡ put (laneAt (wordAt e w k)) 0 (2 * i) out₀)
 
 abbrev μ-loop : tie.MeasureT-loop
 μ-loop out₀ n w k e m i₀ out i = eights n - i
 
-add-m : tie.Need-add-m Inv-loop μ-loop
-add-m c = omega arith
-
-mul-m : tie.Need-mul-m Inv-loop μ-loop
-mul-m c = omega arith
+eights-requires : tie.Need-eights-requires Inv-loop μ-loop
+eights-requires c κs = omega arith
 
 loop-holds : tie.Need-loop-holds Inv-loop μ-loop
 loop-holds c = (zero-le, put-none _ 0 _)
 
 weights-at-requires : tie.Need-weights-at-requires Inv-loop μ-loop
-weights-at-requires c κs = let s = c .before .before in ((s .pre .0 .1, omega arith), s .pre .1)
+weights-at-requires c κs = let s = c .before .before .before in ((s .pre .0 .1, omega arith), s .pre .1)
 
 pair-requires : tie.Need-pair-requires Inv-loop μ-loop
 pair-requires c κs = omega arith
@@ -63,13 +60,13 @@ loop-less c = omega arith
 
 loop-again : tie.Need-loop-again Inv-loop μ-loop
 loop-again c =
-    let s = c .before .before .before .before .before in
+    let s = c .before .before .before .before .before .before in
     let v = c .before .before .weights-at .ensures in
     (omega arith, ldr-stores _ (s .args .e) (s .args .e) _ _ _ (s .pre .0 .2) (c .before .before .before .before .loop .inv .1) refl refl (v .r) (v .g) (v .b) (v .a) (c .before .pair .ensures) (c .pair2 .ensures))
 
 returns : tie.Need-returns Inv-loop μ-loop
 returns c =
-    let e : c .before .loop .i ≡ eights (c .before .before .args .n) = omega arith in
+    let e : c .before .loop .i ≡ eights (c .before .before .before .args .n) = omega arith in
     rw e at (c .before .loop .inv .1)
 
 pub paint-planes-spec : {M : Type 1} → statement M
@@ -78,8 +75,7 @@ paint-planes-spec =
     (tie.spec
     Inv-loop
     μ-loop
-    add-m
-    mul-m
+    eights-requires
     loop-holds
     weights-at-requires
     pair-requires

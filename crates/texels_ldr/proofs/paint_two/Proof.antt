@@ -1,9 +1,9 @@
--- The halves before 2 * i are those of the texels before i.
+-- The lanes before 2 * i are those of the texels before i.
 use mathlib.Core.Path.{_≡_, refl}
 use Prim.Native.Nat.{ℕ, _*_, _-_, _≤_, zero-le}
 use lib.ListN.{getD}
 use Rattle.laws.specs.Lists.{put, put-none}
-use Rattle.texels.specs.Texels.{halfAt, eights}
+use Rattle.lanes.specs.Lanes.{laneAt, eights}
 use Rattle.texels.specs.Kinds.{eitherOf}
 use Rattle.texels_ldr.specs.Plain.{Plain, wordOne}
 use Rattle.texels_ldr.specs.LdrLaws.{plain-either, ldr-stores}
@@ -13,7 +13,7 @@ use Rattle.texels_ldr.proofs.paint_two.Tie as tie
 
 abbrev Inv-loop : tie.InvT-loop
 Inv-loop out₀ n w map e f m i₀ out i =
-    (i ≤ eights n) × (out ≡ put (halfAt (λ (i : ℕ). wordOne (eitherOf (getD map i 0) e f) w i)) 0 (2 * i) out₀)
+    (i ≤ eights n) × (out ≡ put (laneAt (λ (i : ℕ). wordOne (eitherOf (getD map i 0) e f) w i)) 0 (2 * i) out₀)
 
 abbrev μ-loop : tie.MeasureT-loop
 μ-loop out₀ n w map e f m i₀ out i = eights n - i
@@ -21,14 +21,11 @@ abbrev μ-loop : tie.MeasureT-loop
 -- the endpoints picked
 plain : (c : tie.After-either-of Inv-loop μ-loop) → Plain (c .either-of .result)
 plain c =
-    let s = c .before .before .before .before .before .before in
+    let s = c .before .before .before .before .before .before .before in
     rw (c .either-of .ensures) (plain-either (getD (s .args .map .now) (c .before .before .before .before .before .loop .i) 0) (s .args .e) (s .args .f) (s .pre .0 .1) (s .pre .0 .2))
 
-add-m : tie.Need-add-m Inv-loop μ-loop
-add-m c = omega arith
-
-mul-m : tie.Need-mul-m Inv-loop μ-loop
-mul-m c = omega arith
+eights-requires : tie.Need-eights-requires Inv-loop μ-loop
+eights-requires c κs = omega arith
 
 loop-holds : tie.Need-loop-holds Inv-loop μ-loop
 loop-holds c = (zero-le, put-none _ 0 _)
@@ -44,13 +41,13 @@ element-copy-out-either-of c = omega arith
 
 either-of-requires : tie.Need-either-of-requires Inv-loop μ-loop
 either-of-requires c κs =
-    let s = c .before .before .before .before .before in
+    let s = c .before .before .before .before .before .before in
     plain-either (getD (s .args .map .now) (c .before .before .before .before .loop .i) 0) (s .args .e) (s .args .f) (s .pre .0 .1) (s .pre .0 .2)
 
 pair-requires : tie.Need-pair-requires Inv-loop μ-loop
 pair-requires c κs =
     let h = plain c in
-    omega (arith, h .b0, h .b1, h .g0, h .g1, c .before .before .before .before .before .before .pre .1 (c .before .before .before .before .before .loop .i))
+    omega (arith, h .b0, h .b1, h .g0, h .g1, c .before .before .before .before .before .before .before .pre .1 (c .before .before .before .before .before .loop .i))
 
 mul-out : tie.Need-mul-out Inv-loop μ-loop
 mul-out c = omega arith
@@ -64,7 +61,7 @@ element-write-out c = omega arith
 pair-requires-2 : tie.Need-pair-requires-2 Inv-loop μ-loop
 pair-requires-2 c κs =
     let h = plain (c .before) in
-    omega (arith, h .r0, h .r1, h .a0, h .a1, c .before .before .before .before .before .before .before .pre .1 (c .before .before .before .before .before .before .loop .i))
+    omega (arith, h .r0, h .r1, h .a0, h .a1, c .before .before .before .before .before .before .before .before .pre .1 (c .before .before .before .before .before .before .loop .i))
 
 mul-out-3 : tie.Need-mul-out-3 Inv-loop μ-loop
 mul-out-3 c = omega arith
@@ -86,13 +83,13 @@ loop-less c = omega arith
 
 loop-again : tie.Need-loop-again Inv-loop μ-loop
 loop-again c =
-    let s = c .before .before .before .before .before .before .before .before in
+    let s = c .before .before .before .before .before .before .before .before .before in
     let e = c .before .before .before .before .wide .ensures .0 in
     (omega arith, ldr-stores _ (c .before .before .either-of .result) (eitherOf (getD (s .args .map .now) (c .before .before .before .before .before .before .before .loop .i) 0) (s .args .e) (s .args .f)) _ _ _ (plain-either (getD (s .args .map .now) (c .before .before .before .before .before .before .before .loop .i) 0) (s .args .e) (s .args .f) (s .pre .0 .1) (s .pre .0 .2)) (c .before .before .before .before .before .before .before .loop .inv .1) refl (c .before .before .either-of .ensures) e e e e (c .before .pair .ensures) (c .pair2 .ensures))
 
 returns : tie.Need-returns Inv-loop μ-loop
 returns c =
-    let e : c .before .loop .i ≡ eights (c .before .before .args .n) = omega arith in
+    let e : c .before .loop .i ≡ eights (c .before .before .before .args .n) = omega arith in
     rw e at (c .before .loop .inv .1)
 
 pub paint-two-spec : {M : Type 1} → statement M
@@ -101,8 +98,7 @@ paint-two-spec =
     (tie.spec
     Inv-loop
     μ-loop
-    add-m
-    mul-m
+    eights-requires
     loop-holds
     element-copy-out-wide
     wide-requires

@@ -1,32 +1,29 @@
--- The halves before 2 * i are those of the texels before i.
+-- The lanes before 2 * i are those of the texels before i.
 use mathlib.Core.Path.{_≡_}
 use Prim.Native.Nat.{ℕ, _*_, _-_, _≤_, _<_, zero-le}
 use lib.ListN.{getD}
 use Rattle.laws.specs.Lists.{put, put-none}
 use Rattle.endpoints_colours.specs.Colours.{nothing}
-use Rattle.texels.specs.Texels.{halfAt, eights}
+use Rattle.lanes.specs.Lanes.{laneAt, eights}
 use Rattle.texels.specs.Kinds.{wordAt}
-use Rattle.texels.specs.PaintLaws.{word-stores}
+use Rattle.lanes.specs.LaneLaws.{word-stores}
 use native.Mathlib.Omega.{arith}
 use Rattle.texels_paint.proofs.mixed.paint_any.Statement.{statement}
 use Rattle.texels_paint.proofs.mixed.paint_any.Tie as tie
 
 abbrev Inv-loop : tie.InvT-loop
 Inv-loop out₀ n w k map ends m i₀ out i =
-    (i ≤ eights n) × (out ≡ put (halfAt (λ (i : ℕ). wordAt (getD ends (getD map i 0) nothing) w k i)) 0 (2 * i) out₀)
+    (i ≤ eights n) × (out ≡ put (laneAt (λ (i : ℕ). wordAt (getD ends (getD map i 0) nothing) w k i)) 0 (2 * i) out₀)
 
 abbrev μ-loop : tie.MeasureT-loop
 μ-loop out₀ n w k map ends m i₀ out i = eights n - i
 
 -- the texel's partition is one of four
 inside : (c : tie.After-place Inv-loop μ-loop) → c .place .result < 4
-inside c = rw (c .place .ensures) (c .before .before .before .before .pre .1 .1 .1 (c .before .before .before .loop .i))
+inside c = rw (c .place .ensures) (c .before .before .before .before .before .pre .1 .1 .1 (c .before .before .before .loop .i))
 
-add-m : tie.Need-add-m Inv-loop μ-loop
-add-m c = omega arith
-
-mul-m : tie.Need-mul-m Inv-loop μ-loop
-mul-m c = omega arith
+eights-requires : tie.Need-eights-requires Inv-loop μ-loop
+eights-requires c κs = omega arith
 
 loop-holds : tie.Need-loop-holds Inv-loop μ-loop
 loop-holds c = (zero-le, put-none _ 0 _)
@@ -69,7 +66,7 @@ element-copy-out-texel-4 c = omega arith
 
 texel-requires : tie.Need-texel-requires Inv-loop μ-loop
 texel-requires c κs =
-    let p = c .before .before .before .before .before .before .before .before .before .before .before .before .before .pre .1 in
+    let p = c .before .before .before .before .before .before .before .before .before .before .before .before .before .before .pre .1 in
     (p .0 _, p .1 .0 _, p .1 .0 _, p .1 .0 _, p .1 .0 _)
 
 low-requires : tie.Need-low-requires Inv-loop μ-loop
@@ -113,7 +110,7 @@ loop-again c =
 
 returns : tie.Need-returns Inv-loop μ-loop
 returns c =
-    let e : c .before .loop .i ≡ eights (c .before .before .args .n) = omega arith in
+    let e : c .before .loop .i ≡ eights (c .before .before .before .args .n) = omega arith in
     rw e at (c .before .loop .inv .1)
 
 pub paint-any-spec : {M : Type 1} → statement M
@@ -122,8 +119,7 @@ paint-any-spec =
     (tie.spec
     Inv-loop
     μ-loop
-    add-m
-    mul-m
+    eights-requires
     loop-holds
     element-copy-out-place
     place-requires
