@@ -1,7 +1,7 @@
 -- The entry point's ways out, and the words that it paints.
 -- Assumes nothing.
 use mathlib.Core.Path.{_≡_, refl, sym, ap, _∙_}
-use mathlib.Core.Bool.{true, false, cond, not}
+use mathlib.Core.Bool.{Bool, true, false, cond, not}
 use mathlib.Core.List.{List}
 use Prim.Native.Nat.{ℕ, _+_, _≤_, _<_}
 use native.Mathlib.Nat.{zero-add}
@@ -9,7 +9,7 @@ use native.Mathlib.Omega.{arith}
 use lib.Dec.{eqb, ltb}
 use lib.ListN.{length, replicate, length-replicate}
 use borrow.Author.Tests.{eq-eqb, ne-eqb, lt-ltb, le-ltb}
-use Rattle.laws.specs.Lists.{put, putAt, put-same, putAt-first}
+use Rattle.laws.specs.Lists.{put, putAt, length-put, put-same, putAt-first}
 use Rattle.bits.specs.Bits.{bytes}
 use Rattle.footprint.specs.Footprints.{texelsOf, listed}
 use Rattle.footprint.specs.declared.Footprint.{Footprint}
@@ -68,3 +68,12 @@ module _ (s : List ℕ) (foot : Footprint) (out : List ℕ) where
   unfolding answerOf paintedOf outcomeOf
   painted a now l f r d =
       rw (eq-eqb (length s) 16 l, f, le-ltb (length out) (texelsOf foot) r, lt-ltb (paramsOf (bytes 16 s) foot .answer) 20 (params-answer-lt (bytes 16 s) foot)) d
+
+-- what is painted has the length of what was there
+pub length-painted : (s : List ℕ) (foot : Footprint) (out : List ℕ) → length (paintedOf s foot out) ≡ length out
+unfolding paintedOf
+length-painted s foot out = go (ltb (answerOf s foot (length out)) 20)
+  where
+    go : (t : Bool) → length (cond t (put (wordAt s foot) 0 (texelsOf foot) out) out) ≡ length out
+    go true = length-put (wordAt s foot) 0 (texelsOf foot) out
+    go false = refl

@@ -9,8 +9,8 @@ use lib.Dec.{ltb, ltb→lt, lit<}
 use lib.ListN.{getD, length, List·getD-eq-default}
 use Rattle.laws.specs.Table.{all, all-at}
 use Rattle.laws.specs.Lists.{listOf, length-listOf, getD-listOf}
-use Rattle.sequence.specs.Ranges.{ranges, rangeOf, levels}
-use Rattle.sequence.specs.Patterns.{copies, repeated, spelt}
+use Rattle.sequence_ranges.specs.Ranges.{ranges, rangeOf, levels}
+use Rattle.sequence_ranges.specs.Patterns.{copies, repeated, spelt}
 use Rattle.endpoints_unquantise.specs.Patterns.{tritRows, quintRows}
 use Rattle.endpoints_unquantise.specs.Unquantised.{byRow, unquantise, endpointValue, endpointValues}
 

@@ -13,8 +13,8 @@ use lib.ListN.{length, getD, replicate, length-replicate, getD-replicate}
 use Rattle.laws.specs.Lists.{put, length-put, put-in, put-after, is-listOf}
 use Rattle.laws.specs.Table.{all, all-at}
 use Rattle.lanes.specs.Lanes.{eights}
-use Rattle.sequence.specs.Ranges.{ranges, rangeOf, levels}
-use Rattle.sequence.specs.Patterns.{copies, repeated, spelt}
+use Rattle.sequence_ranges.specs.Ranges.{ranges, rangeOf, levels}
+use Rattle.sequence_ranges.specs.Patterns.{copies, repeated, spelt}
 use Rattle.endpoints_unquantise.specs.Patterns.{tritRows, quintRows}
 use Rattle.endpoints_unquantise.specs.Unquantised.{byRow, unquantise, endpointValue, endpointValues}
 use Rattle.endpoints_unquantise.specs.declared.Rule.{Rule}

@@ -1,7 +1,7 @@
 -- The standard's table of the unquantisation of colour endpoints: for each range with trits or quints its pattern B and its number C.
 -- Assumes nothing.
 use mathlib.Core.List.{List, [], _∷_}
-use Rattle.sequence.specs.Patterns.{Letter, o, b, c, d, e, f, Row, row}
+use Rattle.sequence_ranges.specs.Patterns.{Letter, o, b, c, d, e, f, Row, row}
 
 -- nine letters in a row, the highest bit first
 abbrev pub nine : (x8 x7 x6 x5 x4 x3 x2 x1 x0 : Letter) → List Letter

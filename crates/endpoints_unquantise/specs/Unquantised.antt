@@ -6,10 +6,10 @@ use Prim.Native.Nat.{ℕ, _+_, _*_, _-_, _/_, _%_, _^_}
 use lib.Dec.{eqb}
 use lib.ListN.{getD}
 use Rattle.laws.specs.Lists.{listOf}
-use Rattle.sequence.specs.Ranges.{rangeOf}
-use Rattle.sequence.specs.declared.Kind.{Kind}
-use Rattle.sequence.specs.declared.Kind.the-variants.{Plain, Trits, Quints}
-use Rattle.sequence.specs.Patterns.{repeated, Row, row, spelt}
+use Rattle.sequence_ranges.specs.Ranges.{rangeOf}
+use Rattle.sequence_ranges.specs.declared.Kind.{Kind}
+use Rattle.sequence_ranges.specs.declared.Kind.the-variants.{Plain, Trits, Quints}
+use Rattle.sequence_ranges.specs.Patterns.{repeated, Row, row, spelt}
 use Rattle.endpoints_unquantise.specs.Patterns.{tritRows, quintRows}
 
 -- of a row of the table, the digit (trit or quint) and the plain bits m: with A the lowest of them nine times, T = (digit * C + B) xor A, and then (A & 0x80) | (T >> 2)

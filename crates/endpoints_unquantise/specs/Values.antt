@@ -3,8 +3,8 @@
 use mathlib.Core.Path.{_≡_, refl}
 use mathlib.Core.List.{[], _∷_}
 use Rattle.laws.specs.Lists.{listOf}
-use Rattle.sequence.specs.Ranges.{ranges, rangeOf}
-use Rattle.sequence.specs.Patterns.{copies, repeated, spelt}
+use Rattle.sequence_ranges.specs.Ranges.{ranges, rangeOf}
+use Rattle.sequence_ranges.specs.Patterns.{copies, repeated, spelt}
 use Rattle.endpoints_unquantise.specs.Patterns.{tritRows, quintRows}
 use Rattle.endpoints_unquantise.specs.Unquantised.{byRow, unquantise, endpointValue}
 

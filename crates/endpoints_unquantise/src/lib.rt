@@ -4,7 +4,7 @@ ghost use Prim.Native.Nat.{ℕ, _%_, _≤_, _<_};
 ghost use lib.ListN.{getD, replicate};
 ghost use Rattle.laws.specs.Lists.{put};
 ghost use Rattle.lanes.specs.Lanes.{eights};
-ghost use Rattle.sequence.specs.Ranges.{rangeOf, levels};
+ghost use Rattle.sequence_ranges.specs.Ranges.{rangeOf, levels};
 ghost use Rattle.endpoints_unquantise.specs.Unquantised.{endpointValues};
 ghost use Rattle.endpoints_unquantise.specs.Closed.{flipped, unpacked, copied, Narrow, NarrowRepeat, Unpacks, Repeats};
 

@@ -8,7 +8,7 @@ use Rattle.bits.specs.Bits.{bitsAt}
 use Rattle.answers.specs.Answers.{voidExtent, reservedMode, gridTooLarge, tooManyWeights, weightBits, dualPlaneOfFour, tooManyValues, tooLittleRoom}
 use Rattle.footprint.specs.declared.Footprint.{Footprint}
 use Rattle.params.specs.Ranges.{cost, widest}
-use Rattle.sequence.specs.Ranges.{topOf}
+use Rattle.sequence_ranges.specs.Ranges.{topOf}
 use Rattle.params.specs.Config.{isVoid, isReserved, configOf, partsOf, confLen, numberOf, modeOf}
 use Rattle.params.specs.declared.Config.{Config}
 use Rattle.params.specs.declared.Map.{Map}

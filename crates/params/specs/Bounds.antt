@@ -12,11 +12,11 @@ use Rattle.bits.specs.Bits.{bitsAt}
 use Rattle.bits.specs.BitLaws.{bits-lt}
 use Rattle.laws.specs.Table.{all-at}
 use Rattle.laws.specs.Numbers.{choice, choice-le}
-use Rattle.sequence.specs.Ranges.{rangeOf, most, tops, topOf}
-use Rattle.sequence.specs.Sequence.{per, shared, totalOf}
-use Rattle.sequence.specs.SequenceLaws.{legal}
-use Rattle.sequence.specs.declared.Kind.{Kind}
-use Rattle.sequence.specs.declared.Kind.the-variants.{Plain, Trits, Quints}
+use Rattle.sequence_ranges.specs.Ranges.{rangeOf, most, tops, topOf}
+use Rattle.sequence_ranges.specs.Ranges.{per, shared, totalOf}
+use Rattle.sequence_ranges.specs.RangeLaws.{legal}
+use Rattle.sequence_ranges.specs.declared.Kind.{Kind}
+use Rattle.sequence_ranges.specs.declared.Kind.the-variants.{Plain, Trits, Quints}
 use Rattle.params.specs.Ranges.{cost}
 use Rattle.params.specs.Config.{isReserved, gridLow, gridHigh, gridOf, weightR, weightH, weightD, lacksDH, partsOf, modeBase, classOf, restOf, valuesTo, confLen, modeBits, configOf, weightRange, planesOf, grid, oneOf}
 use Rattle.params.specs.Blocks.{upperOf}

@@ -11,8 +11,8 @@ use Rattle.bits.specs.Bits.{bitsAt}
 use Rattle.bits.specs.BitLaws.{locality, same-bits}
 use Rattle.laws.specs.Table.{at}
 use Rattle.footprint.specs.declared.Footprint.{Footprint}
-use Rattle.sequence.specs.Ranges.{rangeOf, ranges}
-use Rattle.sequence.specs.Sequence.{totalOf}
+use Rattle.sequence_ranges.specs.Ranges.{rangeOf, ranges}
+use Rattle.sequence_ranges.specs.Ranges.{totalOf}
 use Rattle.params.specs.Ranges.{cost, widest}
 use Rattle.params.specs.Widest.{Roomy}
 use Rattle.params.specs.Config.{isVoid, isReserved, configOf, partsOf, confLen, modeOf, classOf}

@@ -3,8 +3,8 @@
 use mathlib.Core.Bool.{cond}
 use Prim.Native.Nat.{ℕ, zero, suc, _+_}
 use lib.Dec.{leb}
-use Rattle.sequence.specs.Ranges.{rangeOf}
-use Rattle.sequence.specs.Sequence.{totalOf}
+use Rattle.sequence_ranges.specs.Ranges.{rangeOf}
+use Rattle.sequence_ranges.specs.Ranges.{totalOf}
 
 -- the bits of n values of the range of number q
 unfoldable pub cost : ℕ → ℕ → ℕ

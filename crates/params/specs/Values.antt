@@ -6,8 +6,8 @@ use Prim.Native.Nat.{ℕ, _+_, _*_, _/_}
 use Rattle.bits.specs.Bits.{bitsAt, bytes}
 use Rattle.footprint.specs.Footprints.{footprint}
 use Rattle.footprint.specs.declared.Footprint.{Footprint}
-use Rattle.sequence.specs.Ranges.{ranges, rangeOf, tops, topOf}
-use Rattle.sequence.specs.Sequence.{totalOf}
+use Rattle.sequence_ranges.specs.Ranges.{ranges, rangeOf, tops, topOf}
+use Rattle.sequence_ranges.specs.Ranges.{totalOf}
 use Rattle.params.specs.Ranges.{cost, widest}
 use Rattle.params.specs.Config.{isVoid, isReserved, lacksDH, gridLow, gridHigh, gridOf, weightR, weightH, weightD, partsOf, numberOf, modeBase, classOf, restOf, modeOf, valuesTo, confLen, modeBits, configOf}
 use Rattle.params.specs.Blocks.{endVerdict, verdict, answer, lowOf, mapOf, channelOf, upperOf, legal, refused, paramsOf}

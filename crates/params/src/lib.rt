@@ -5,7 +5,7 @@ ghost use mathlib.Core.Path.{_≡_};
 ghost use mathlib.Core.Bool.{true, false};
 ghost use Prim.Native.Nat.{_+_, _-_, _*_, _≤_, _<_};
 ghost use Rattle.bits.specs.Blocks.{valueOf};
-ghost use Rattle.sequence.specs.Ranges.{topOf};
+ghost use Rattle.sequence_ranges.specs.Ranges.{topOf};
 ghost use Rattle.params.specs.Ranges.{cost, widest};
 ghost use Rattle.params.specs.Widest.{Roomy, inverseOf, wholeBits};
 ghost use Rattle.params.specs.Config.{isVoid, isReserved, gridLow, gridHigh, gridOf, weightR, weightH, weightD, lacksDH, partsOf, numberOf, modeBase, classOf, restOf, valuesTo, confLen, modeBits, configOf};
@@ -81,7 +81,7 @@ fn range_bits(q: usize, n: usize) -> usize
     requires { ⌜ (q < 21) × (n ≤ 288) ⌝ }
     ensures { λ r. ⌜ r ≡ cost q n ⌝ }
 {
-    sequence::total(sequence::range_of(q), n)
+    sequence_ranges::total(sequence_ranges::range_of(q), n)
 }
 
 // Whether a block is void: of one colour, which stands in it.

@@ -5,16 +5,19 @@ use mathlib.Core.List.{List, [], _∷_, _++_}
 use Prim.Native.Nat.{ℕ, _/_, _%_}
 use lib.Dec.{ltb}
 use lib.ListN.{getD, drop, replicate}
-use Rattle.block.specs.Block.{answerOf, paintedOf}
+use Rattle.answers.specs.Answers.{blockLength}
+use Rattle.footprint.specs.Footprints.{footprint, mostTexels}
+use Rattle.block_map.specs.Answer.{answerOf}
+use Rattle.block.specs.Block.{paintedOf}
 use Rattle.program_text.specs.Text.{decimal}
 
 -- the answer, where there is room for so many words
 abbrev pub answerIn : List ℕ → ℕ → ℕ
-answerIn r room = answerOf (drop 2 r) (getD r 0 0) (getD r 1 0) room
+answerIn r room = answerOf (drop 2 r) (footprint (getD r 0 0) (getD r 1 0)) room
 
 -- what the words hold afterwards
 abbrev pub wordsIn : List ℕ → List ℕ → List ℕ
-wordsIn r words = paintedOf (drop 2 r) (getD r 0 0) (getD r 1 0) words
+wordsIn r words = paintedOf (drop 2 r) (footprint (getD r 0 0) (getD r 1 0)) words
 
 -- a space and a number
 abbrev pub fieldOf : ℕ → List ℕ
@@ -24,9 +27,9 @@ fieldOf n = 32 ∷ decimal n
 abbrev pub colourOf : ℕ → List ℕ
 colourOf w = fieldOf (w / 65536 % 256) ++ fieldOf (w / 256 % 256) ++ fieldOf (w % 256) ++ fieldOf (w / 16777216)
 
--- the number, the answer, the colour of the first texel where the block was painted, and a newline; no block has more than 144 words
+-- the number, the answer, the colour of the first texel where the block was painted, and a newline; no block has more words than the largest footprint has texels
 unfoldable pub lineOf : ℕ → List ℕ → List ℕ
 lineOf number r =
-    let answer = answerIn r 144 in
-    let word = getD (wordsIn r (replicate 144 0)) 0 0 in
-    decimal number ++ fieldOf answer ++ cond (ltb answer 20) (colourOf word) [] ++ (10 ∷ [])
+    let answer = answerIn r mostTexels in
+    let word = getD (wordsIn r (replicate mostTexels 0)) 0 0 in
+    decimal number ++ fieldOf answer ++ cond (ltb answer blockLength) (colourOf word) [] ++ (10 ∷ [])

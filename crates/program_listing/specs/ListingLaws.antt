@@ -7,28 +7,30 @@ use native.Mathlib.Omega.{arith}
 use lib.ListN.{length, getD, drop, take, replicate, length-drop}
 use lib.Seq.{take-all}
 use borrow.Author.Tests.{lt-ltb, le-ltb}
-use Rattle.block.specs.Block.{answerOf, paintedOf}
+use Rattle.footprint.specs.Footprints.{footprint, mostTexels}
+use Rattle.block_map.specs.Answer.{answerOf}
+use Rattle.block.specs.Block.{paintedOf}
 use Rattle.block.specs.Entry.{not-sixteen}
 use Rattle.program_text.specs.Text.{decimal}
 use Rattle.program_listing.specs.Listing.{answerIn, wordsIn, fieldOf, colourOf, lineOf}
 
 -- a record of another length has no block of sixteen bytes
 pub short : (r words : List ℕ) → (length r ≡ 18 → ⊥) → (20 ≡ answerIn r (length words)) × (words ≡ wordsIn r words)
-short r words h = not-sixteen (drop 2 r) (getD r 0 0) (getD r 1 0) words (λ e. h (omega (arith, e, length-drop 2 r)))
+short r words h = not-sixteen (drop 2 r) (footprint (getD r 0 0) (getD r 1 0)) words (λ e. h (omega (arith, e, length-drop 2 r)))
 
 -- a record of eighteen bytes has its block after the first two
-pub whole : (r words words′ : List ℕ) (bw bh a : ℕ) → bw ≡ getD r 0 0 → bh ≡ getD r 1 0 → a ≡ answerOf (take (length r - 2) (drop 2 r)) bw bh (length words)
-    → words′ ≡ paintedOf (take (length r - 2) (drop 2 r)) bw bh words → (a ≡ answerIn r (length words)) × (words′ ≡ wordsIn r words)
+pub whole : (r words words′ : List ℕ) (bw bh a : ℕ) → bw ≡ getD r 0 0 → bh ≡ getD r 1 0 → a ≡ answerOf (take (length r - 2) (drop 2 r)) (footprint bw bh) (length words)
+    → words′ ≡ paintedOf (take (length r - 2) (drop 2 r)) (footprint bw bh) words → (a ≡ answerIn r (length words)) × (words′ ≡ wordsIn r words)
 whole r words words′ bw bh a w h e p =
     let t : take (length r - 2) (drop 2 r) ≡ drop 2 r = take-all (length r - 2) (drop 2 r) (omega (arith, length-drop 2 r)) in
     (e ∙ rw (t, w, h), p ∙ rw (t, w, h))
 
 -- the line of a record that was painted, and of one that was not
-pub line-painted : (number : ℕ) (r : List ℕ) (answer word : ℕ) → answer ≡ answerIn r 144 → word ≡ getD (wordsIn r (replicate 144 0)) 0 0 → answer < 20
+pub line-painted : (number : ℕ) (r : List ℕ) (answer word : ℕ) → answer ≡ answerIn r mostTexels → word ≡ getD (wordsIn r (replicate mostTexels 0)) 0 0 → answer < 20
     → decimal number ++ fieldOf answer ++ colourOf word ++ (10 ∷ []) ≡ lineOf number r
 unfolding lineOf
 line-painted number r answer word a w h = rw (sym a, sym w, lt-ltb answer 20 h)
 
-pub line-refused : (number : ℕ) (r : List ℕ) (answer : ℕ) → answer ≡ answerIn r 144 → 20 ≤ answer → decimal number ++ fieldOf answer ++ (10 ∷ []) ≡ lineOf number r
+pub line-refused : (number : ℕ) (r : List ℕ) (answer : ℕ) → answer ≡ answerIn r mostTexels → 20 ≤ answer → decimal number ++ fieldOf answer ++ (10 ∷ []) ≡ lineOf number r
 unfolding lineOf
 line-refused number r answer a h = rw (sym a, le-ltb answer 20 h, append-nil (decimal number ++ fieldOf answer))

@@ -1,5 +1,7 @@
 // Lists blocks: a line for each record of standard input, with its number, its answer and its first texel's colour.
 // A record is 18 bytes: the width and height of a footprint, and a block. A short last one has the answer 20.
+use footprint::Footprint;
+use footprint::TEXELS;
 use libc::STDERR_FILENO;
 use libc::STDIN_FILENO;
 use libc::STDOUT_FILENO;
@@ -20,9 +22,13 @@ fn answer_of(bytes: &[u8], words: &mut [u32]) -> usize
     ensures { λ r. ⌜ (r ≡ answerIn (now (bytes .entry)) (length (now (words .entry)))) × (now (words .exit) ≡ wordsIn (now (bytes .entry)) (now (words .entry))) ⌝ }
 {
     if bytes.len() != 18 {
-        return 20;
+        return answers::BLOCK_LENGTH;
     }
-    block::decode_astc_block(&bytes[2..], wide(bytes[0]), wide(bytes[1]), words)
+    let f = Footprint {
+        width: wide(bytes[0]),
+        height: wide(bytes[1]),
+    };
+    block::decode_astc_block(&bytes[2..], f, words)
 }
 
 // Puts a space and a number into the line.
@@ -50,11 +56,11 @@ fn lay_out(line: &mut [u8], number: u64, bytes: &[u8]) -> usize
     requires { ⌜ 126 ≤ length (now line) ⌝ }
     ensures { λ r. ⌜ Placed (now (line .entry)) 0 (lineOf number (now (bytes .entry))) (now (line .exit)) r × (r ≤ 126) ⌝ }
 {
-    let mut words = [0u32; 144];
+    let mut words = [0u32; TEXELS];
     let answer = answer_of(bytes, &mut words);
     let start = program_text::put_number(line, 0, number);
     let after = put_field(line, start, answer as u64);
-    if answer < 20 {
+    if answer < answers::BLOCK_LENGTH {
         let end = put_colour(line, after, words[0]);
         return program_text::put_text(line, end, b"\n");
     }

@@ -1,15 +1,15 @@
 // Decodes a stored list of blocks anew, and counts the records whose answer or words come out otherwise.
 // A record of standard input is a footprint's width and height, the answer, the sixteen bytes of a block, and for each
 // texel a word of four bytes, the low one first.
+use footprint::Footprint;
+use footprint::TEXELS;
 use libc::STDIN_FILENO;
-use libc::STDOUT_FILENO;
+use program_compare::MARKER;
 ghost use mathlib.Core.Path.{_≡_};
 ghost use Prim.Native.Nat.{_≤_, _<_};
 ghost use lib.ListN.{length};
-ghost use Rattle.program_replay.specs.Replay.{wordAt, expectedAt, differences, texelsOf, differsFrom, closedAt, countedIn, recordIn, answerIn};
-
-// What a word holds before it is painted, and keeps where it stands after the block's words.
-const MARKER: u32 = 0x0102_0304;
+ghost use Rattle.footprint.specs.Footprints.{mostTexels};
+ghost use Rattle.program_replay.specs.Replay.{wordAt, storedWords, texelsOf, differsFrom, closedAt, countedIn, recordIn, answerIn};
 
 fn wide(x: u8) -> usize
     ensures { λ r. ⌜ (r ≡ x) × (r < 256) ⌝ }
@@ -25,7 +25,7 @@ fn long(x: u8) -> u32
 
 // The stored word of texel k.
 fn word_at(stored: &[u8; 576], k: usize) -> u32
-    requires { ⌜ k < 144 ⌝ }
+    requires { ⌜ k < mostTexels ⌝ }
     ensures { λ r. ⌜ r ≡ wordAt (now (stored .entry)) k ⌝ }
 {
     long(stored[4 * k])
@@ -34,28 +34,17 @@ fn word_at(stored: &[u8; 576], k: usize) -> u32
         + 0x100_0000 * long(stored[4 * k + 3])
 }
 
-// What word k should hold after a block of n texels.
-fn expected(stored: &[u8; 576], n: usize, k: usize) -> u32
-    requires { ⌜ k < 144 ⌝ }
-    ensures { λ r. ⌜ r ≡ expectedAt (now (stored .entry)) n k ⌝ }
+// The words that are stored, 0 after the last.
+fn stored_words(stored: &[u8; 576]) -> [u32; TEXELS]
+    ensures { λ r. ⌜ r ≡ storedWords (now (stored .entry)) ⌝ }
 {
-    if k < n {
-        return word_at(stored, k);
-    }
-    MARKER
-}
-
-// How many of the words hold something else than they should after a block of n texels.
-fn count_differences(words: &[u32; 144], stored: &[u8; 576], n: usize) -> usize
-    ensures { λ r. ⌜ r ≡ differences (now (words .entry)) (now (stored .entry)) n 144 ⌝ }
-{
-    let mut found = 0;
+    let mut words = [0u32; TEXELS];
     let mut k = 0;
-    while k < 144 {
-        found += program_text::one_if(words[k] != expected(stored, n, k));
+    while k < TEXELS {
+        words[k] = word_at(stored, k);
         k += 1;
     }
-    found
+    words
 }
 
 // The texels of a record's footprint.
@@ -65,17 +54,22 @@ fn texels(head: &[u8; 19]) -> usize
     wide(head[0]) * wide(head[1])
 }
 
-// Whether a record's block has another answer than is stored, or other words in any of the 144 places.
+// Whether a record's block has another answer than is stored, or other words in any place.
 fn differs(head: &[u8; 19], stored: &[u8; 576]) -> bool
     ensures { λ r. ⌜ r ≡ differsFrom (now (head .entry)) (now (stored .entry)) ⌝ }
 {
-    let mut words = [MARKER; 144];
+    let mut words = [MARKER; TEXELS];
+    let f = Footprint {
+        width: wide(head[0]),
+        height: wide(head[1]),
+    };
     let h = &head[..];
-    let answer = block::decode_astc_block(&h[3..19], wide(head[0]), wide(head[1]), &mut words);
+    let answer = block::decode_astc_block(&h[3..19], f, &mut words);
     if answer != wide(head[2]) {
         return true;
     }
-    count_differences(&words, stored, texels(head)) > 0
+    let whole = stored_words(stored);
+    program_compare::count_differences(&words, &whole, texels(head)) > 0
 }
 
 // How the reading of a record went.
@@ -89,7 +83,7 @@ pub enum Record {
 fn read_words(stored: &mut [u8], n: usize) -> Record
     requires { ⌜ 576 ≤ length (now stored) ⌝ }
 {
-    if 144 < n {
+    if TEXELS < n {
         return Record::Malformed;
     }
     let size = 4 * n;
@@ -185,32 +179,24 @@ fn replay_all(answers: &mut [usize; 256]) -> Tally {
     t
 }
 
-fn print(label: &[u8], count: usize)
-    requires { ⌜ length (now label) ≤ 43 ⌝ }
-{
-    let mut line = [0u8; 64];
-    let end = program_text::lay_out_count(&mut line, label, count);
-    io::write_all(STDOUT_FILENO, &line[..end]);
-}
-
 fn print_answers(answers: &[usize; 256]) {
-    print(b"answer 0: ", answers[0]);
-    print(b"answer 1: ", answers[1]);
-    print(b"answer 10: ", answers[10]);
-    print(b"answer 11: ", answers[11]);
-    print(b"answer 12: ", answers[12]);
-    print(b"answer 13: ", answers[13]);
-    print(b"answer 14: ", answers[14]);
-    print(b"answer 15: ", answers[15]);
-    print(b"answer 16: ", answers[16]);
+    program_text::print_count(b"answer 0: ", answers[0]);
+    program_text::print_count(b"answer 1: ", answers[1]);
+    program_text::print_count(b"answer 10: ", answers[10]);
+    program_text::print_count(b"answer 11: ", answers[11]);
+    program_text::print_count(b"answer 12: ", answers[12]);
+    program_text::print_count(b"answer 13: ", answers[13]);
+    program_text::print_count(b"answer 14: ", answers[14]);
+    program_text::print_count(b"answer 15: ", answers[15]);
+    program_text::print_count(b"answer 16: ", answers[16]);
 }
 
 fn main() {
     let mut answers = [0usize; 256];
     let t = replay_all(&mut answers);
-    print(b"blocks ", t.blocks);
+    program_text::print_count(b"blocks ", t.blocks);
     print_answers(&answers);
-    print(b"words ", t.words);
-    print(b"different ", t.different);
-    print(b"malformed ", t.malformed);
+    program_text::print_count(b"words ", t.words);
+    program_text::print_count(b"different ", t.different);
+    program_text::print_count(b"malformed ", t.malformed);
 }

@@ -1,35 +1,17 @@
 -- An image painted in steps against the image painted whole.
 -- Assumes nothing.
-use mathlib.Core.Bool.{Bool, true, cond, not}
-use mathlib.Core.List.{List}
-use Prim.Native.Nat.{ℕ, zero, suc, _+_, _≤_}
-use lib.Dec.{eqb, ltb}
-use lib.ListN.{getD}
+use Prim.Native.Nat.{ℕ, _≤_}
 use Rattle.image.specs.declared.Cursor.{Cursor}
+use Rattle.program_compare.specs.declared.Came.{Came}
 use Rattle.program_strides.specs.declared.Walk.{Walk}
 
 -- an image of at most 10 by 8 blocks and 1280 pixels
 pub record Small (c : Cursor) : Type 0 where
-  pub width : c .width ≤ 40
-  pub height : c .height ≤ 32
-  pub bw : (4 ≤ c .bw) × (c .bw ≤ 12)
-  pub bh : (4 ≤ c .bh) × (c .bh ≤ 12)
+  pub width : c .shape .width ≤ 40
+  pub height : c .shape .height ≤ 32
+  pub bw : (4 ≤ c .shape .footprint .width) × (c .shape .footprint .width ≤ 12)
+  pub bh : (4 ≤ c .shape .footprint .height) × (c .shape .footprint .height ≤ 12)
 
--- what the words hold before the image is painted
-abbrev pub marker : ℕ
-marker = 0x0102_0304
-
--- what word k should hold after an image of n pixels
-abbrev pub expectedAt : List ℕ → ℕ → ℕ → ℕ
-expectedAt whole n k = cond (ltb k n) (getD whole k 0) marker
-
--- how many of the first m words hold something else
-unfoldable pub differences : List ℕ → List ℕ → ℕ → ℕ → ℕ
-differences words whole n zero = 0
-differences words whole n (suc m) = differences words whole n m + cond (not (eqb (getD words m 0) (expectedAt whole n m))) 1 0
-
--- a walk that did not end, was refused, painted another number of blocks or of bad ones, or left other words
-unfoldable pub differsFrom : Walk → ℕ → ℕ → ℕ → Bool
-differsFrom w blocks bad found =
-    cond (w .moving) true
-    (cond (eqb (w .refused) 0) (cond (eqb (w .painted) blocks) (cond (eqb (w .bad) bad) (not (eqb found 0)) true) true) true)
+-- what a walk came to
+abbrev pub cameOf : Walk → Came
+cameOf w = record { moving = w .moving; painted = w .painted; bad = w .bad; refused = w .refused }

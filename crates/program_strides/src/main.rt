@@ -1,12 +1,12 @@
 // Paints images in steps of many sizes, and counts the runs that come out otherwise than the image painted whole.
-use libc::STDOUT_FILENO;
+use footprint::Footprint;
+use footprint::TEXELS;
+use image_shape::Shape;
+use program_compare::Came;
+use program_compare::MARKER;
 ghost use mathlib.Core.Path.{_≡_};
-ghost use Prim.Native.Nat.{_+_, _/_, _≤_, _<_};
-ghost use lib.ListN.{length};
-ghost use Rattle.program_strides.specs.Strides.{Small, expectedAt, differences, differsFrom};
-
-// What a word holds before it is painted, and keeps where it stands after the image's words.
-const MARKER: u32 = 0x0102_0304;
+ghost use Prim.Native.Nat.{_+_, _/_, _≤_};
+ghost use Rattle.program_strides.specs.Strides.{Small, cameOf};
 
 // The width of footprint f, of the fourteen in the order of their width and then of their height.
 fn block_width(f: usize) -> usize
@@ -67,15 +67,16 @@ fn height_at(s: usize, bh: usize) -> usize
 fn start_of(f: usize, s: usize) -> image::Cursor
     ensures { λ r. ⌜ Small r ⌝ }
 {
-    let bw = block_width(f);
-    let bh = block_height(f);
-    image::Cursor {
-        width: width_at(s, bw),
-        height: height_at(s, bh),
-        bw,
-        bh,
-        next: 0,
-    }
+    let footprint = Footprint {
+        width: block_width(f),
+        height: block_height(f),
+    };
+    let shape = Shape {
+        width: width_at(s, footprint.width),
+        height: height_at(s, footprint.height),
+        footprint,
+    };
+    image::Cursor { shape, next: 0 }
 }
 
 // The blocks of a side along n pixels.
@@ -90,13 +91,15 @@ fn blocks_of(c: image::Cursor) -> usize
     requires { ⌜ Small c ⌝ }
     ensures { λ r. ⌜ r ≤ 80 ⌝ }
 {
-    along(c.width, c.bw) * along(c.height, c.bh)
+    let m = c.shape;
+    along(m.width, m.footprint.width) * along(m.height, m.footprint.height)
 }
 
 fn pixels_of(c: image::Cursor) -> usize
     requires { ⌜ Small c ⌝ }
 {
-    c.width * c.height
+    let m = c.shape;
+    m.width * m.height
 }
 
 // The state of the generator of bytes after another.
@@ -201,47 +204,16 @@ fn walk_through(
     w
 }
 
-// What word k should hold after an image of n pixels whose words when painted whole are given.
-fn expected(whole: &[u32; 1280], n: usize, k: usize) -> u32
-    requires { ⌜ k < 1280 ⌝ }
-    ensures { λ r. ⌜ r ≡ expectedAt (now (whole .entry)) n k ⌝ }
+// What a walk came to, to be held to what it should.
+fn came(w: Walk) -> Came
+    ensures { λ r. ⌜ r ≡ cameOf w ⌝ }
 {
-    if k < n {
-        return whole[k];
+    Came {
+        moving: w.moving,
+        painted: w.painted,
+        bad: w.bad,
+        refused: w.refused,
     }
-    MARKER
-}
-
-// How many of the words hold something else than they should after an image of n pixels.
-fn count_differences(words: &[u32; 1280], whole: &[u32; 1280], n: usize) -> usize
-    ensures { λ r. ⌜ r ≡ differences (now (words .entry)) (now (whole .entry)) n 1280 ⌝ }
-{
-    let mut found = 0;
-    let mut k = 0;
-    while k < 1280 {
-        found += program_text::one_if(words[k] != expected(whole, n, k));
-        k += 1;
-    }
-    found
-}
-
-// Whether a walk over an image of so many blocks, of which so many are bad, left any other words or counts than it should.
-fn differs(w: Walk, blocks: usize, bad: usize, found: usize) -> bool
-    ensures { λ r. ⌜ r ≡ differsFrom w blocks bad found ⌝ }
-{
-    if w.moving {
-        return true;
-    }
-    if w.refused != 0 {
-        return true;
-    }
-    if w.painted != blocks {
-        return true;
-    }
-    if w.bad != bad {
-        return true;
-    }
-    found != 0
 }
 
 // What the images so far came to.
@@ -297,26 +269,23 @@ fn step_size(i: usize) -> usize {
 }
 
 // Whether a block by itself answers 10 to 16.
-fn is_bad(block: &[u8], bw: usize, bh: usize) -> bool {
-    let mut words = [MARKER; 144];
-    let answer = block::decode_astc_block(block, bw, bh, &mut words);
-    if answer < 10 {
+fn is_bad(block: &[u8], f: Footprint) -> bool {
+    let mut words = [MARKER; TEXELS];
+    let answer = block::decode_astc_block(block, f, &mut words);
+    if answer < answers::RESERVED_MODE {
         return false;
     }
-    answer <= 16
+    answer <= answers::TOO_LITTLE_ROOM
 }
 
 // How many blocks answer 10 to 16, each by itself.
-fn count_bad(data: &[u8], bw: usize, bh: usize) -> usize {
+fn count_bad(data: &[u8], f: Footprint) -> usize {
     let mut found = 0;
     let mut b = 0;
     while b < data.len() / 16 {
         let start = 16 * b;
         let end = start + 16;
-        found = program_text::added(
-            found,
-            program_text::one_if(is_bad(&data[start..end], bw, bh)),
-        );
+        found = program_text::added(found, program_text::one_if(is_bad(&data[start..end], f)));
         b += 1;
     }
     found
@@ -337,15 +306,16 @@ fn run(
     let mut words = [MARKER; 1280];
     let blocks = blocks_of(start);
     let w = walk_through(start, data, size, blocks + 2, &mut words);
-    let found = count_differences(&words, whole, pixels_of(start));
-    with_run(t, w, differs(w, blocks, bad, found))
+    let found = program_compare::count_differences(&words, whole, pixels_of(start));
+    with_run(t, w, program_compare::differs(came(w), blocks, bad, found))
 }
 
 // Paints an image in steps of each size.
 fn run_all(t: Tally, start: image::Cursor, data: &[u8], whole: &[u32; 1280]) -> Tally
     requires { ⌜ Small start ⌝ }
 {
-    let bad = count_bad(data, start.bw, start.bh);
+    let m = start.shape;
+    let bad = count_bad(data, m.footprint);
     let mut tally = t;
     let mut i = 0;
     while i < 7 {
@@ -360,15 +330,8 @@ fn compare(t: Tally, start: image::Cursor, data: &[u8]) -> Tally
     requires { ⌜ Small start ⌝ }
 {
     let mut whole = [MARKER; 1280];
-    let answer = image::decode_astc(
-        data,
-        start.width,
-        start.height,
-        start.bw,
-        start.bh,
-        &mut whole,
-    );
-    let stray = count_differences(&whole, &whole, pixels_of(start));
+    let answer = image::decode_astc(data, start.shape, &mut whole);
+    let stray = program_compare::count_differences(&whole, &whole, pixels_of(start));
     run_all(with_image(t, answer, stray), start, data, &whole)
 }
 
@@ -399,21 +362,13 @@ fn all_images() -> Tally {
     t
 }
 
-fn print(label: &[u8], count: usize)
-    requires { ⌜ length (now label) ≤ 43 ⌝ }
-{
-    let mut line = [0u8; 64];
-    let end = program_text::lay_out_count(&mut line, label, count);
-    io::write_all(STDOUT_FILENO, &line[..end]);
-}
-
 fn main() {
     let t = all_images();
-    print(b"images ", t.images);
-    print(b"runs in steps ", t.runs);
-    print(b"steps ", t.steps);
-    print(b"blocks painted ", t.painted);
-    print(b"bad blocks ", t.bad);
-    print(b"words compared ", t.words);
-    print(b"different ", t.different);
+    program_text::print_count(b"images ", t.images);
+    program_text::print_count(b"runs in steps ", t.runs);
+    program_text::print_count(b"steps ", t.steps);
+    program_text::print_count(b"blocks painted ", t.painted);
+    program_text::print_count(b"bad blocks ", t.bad);
+    program_text::print_count(b"words compared ", t.words);
+    program_text::print_count(b"different ", t.different);
 }
