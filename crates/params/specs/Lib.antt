@@ -1,7 +1,3 @@
-pub mod Ranges
-pub mod Widest
-pub mod Config
-pub mod Blocks
-pub mod Bounds
+pub mod Params
 pub mod Laws
 pub mod Values

@@ -1,6 +1,6 @@
 -- `params::channel_of` meets its contract by its test. Assumes nothing.
 use borrow.Author.Tests.{eq-eqb, ne-eqb}
-use Rattle.params.specs.Blocks.{channelOf}
+use Rattle.params.specs.Params.{channelOf}
 use Rattle.params.proofs.channel_of.Statement.{statement}
 use Rattle.params.proofs.channel_of.Tie as tie
 

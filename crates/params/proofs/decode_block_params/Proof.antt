@@ -1,5 +1,7 @@
 -- `params::decode_block_params` meets its contract: a law for each way out, in the order of the checks. Assumes nothing.
-use Rattle.params.specs.Laws.{out-void, out-reserved, small-of, used-of, roomy-of, out-legal, out-rule}
+use Rattle.params_config.specs.Bounds.{small-of}
+use Rattle.params_room.specs.RoomLaws.{given}
+use Rattle.params.specs.Laws.{out-void, out-reserved, out-legal, out-rule}
 use mathlib.Core.Path.{sym, _∙_}
 use borrow.Author.Needs.{needs}
 use Rattle.params.proofs.decode_block_params.Statement.{statement}
@@ -33,7 +35,7 @@ judge-requires : tie.Need-judge-requires
 judge-requires c κs = search small-of
 
 accept-requires : tie.Need-accept-requires
-accept-requires c κs = search (small-of, used-of, roomy-of)
+accept-requires c κs = search given
 
 refuse-requires-3 : tie.Need-refuse-requires-3
 refuse-requires-3 c κs = search needs

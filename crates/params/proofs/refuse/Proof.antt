@@ -1,15 +1,12 @@
--- `params::refuse` meets its contract: every number is 0. Assumes nothing.
-use Rattle.params.specs.Blocks.{refused}
-use borrow.Author.Needs.{needs}
+-- `params::refuse` meets its contract: every number but the answer is 0. Assumes nothing.
+use mathlib.Core.Path.{refl}
+use Rattle.params.specs.Params.{refused}
 use Rattle.params.proofs.refuse.Statement.{statement}
 use Rattle.params.proofs.refuse.Tie as tie
 
-no-map-requires : tie.Need-no-map-requires
-no-map-requires c κs = search needs
-
 returns : tie.Need-returns
 unfolding refused
-returns c = rw (c .no-map .ensures)
+returns c = refl
 
 pub refuse-spec : {M : Type 1} → statement M
-refuse-spec = tie.close (tie.spec no-map-requires returns)
+refuse-spec = tie.close (tie.spec returns)

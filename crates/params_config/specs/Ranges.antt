@@ -1,0 +1,9 @@
+-- The bits that values of a range take.
+-- Assumes nothing.
+use Prim.Native.Nat.{ℕ}
+use Rattle.sequence.specs.Ranges.{rangeOf}
+use Rattle.sequence.specs.Sequence.{totalOf}
+
+-- the bits of n values of the range of number q
+unfoldable pub cost : ℕ → ℕ → ℕ
+cost q n = totalOf (rangeOf q) n

@@ -1,0 +1,4 @@
+pub mod Map
+pub mod TopLaws
+pub mod MapLaws
+pub mod Values

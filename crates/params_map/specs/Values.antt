@@ -1,0 +1,24 @@
+-- The values of the document that concern the map. Each is computed.
+-- Assumes nothing.
+use mathlib.Core.Path.{_≡_, refl}
+use Rattle.bits.specs.Bits.{bitsAt, bytes}
+use Rattle.sequence.specs.Ranges.{ranges, rangeOf, tops, topOf}
+use Rattle.sequence.specs.Sequence.{totalOf}
+use Rattle.footprint.specs.Footprints.{footprint}
+use Rattle.params_low.specs.Low.{isVoid, confLen, lowOf, extentOf}
+use Rattle.params_modes.specs.Modes.{classIn, valuesTo}
+use Rattle.params_config.specs.Ranges.{cost}
+use Rattle.params_config.specs.Config.{isReserved, lacksDH, gridLow, gridHigh, gridOf, weightR, weightH, weightD, partsOf, numberOf, modeBase, lowModes, modeBits, configOf}
+use Rattle.params_rules.specs.Rules.{endVerdict, verdict}
+use Rattle.params_rules.specs.Fields.{fieldsOf, answer}
+use Rattle.params_rules.specs.Values.{p1, p2}
+use Rattle.params_room.specs.Room.{widest}
+use Rattle.params_map.specs.Map.{legalMap, noMap, mapIn, mapOf}
+
+pub record Values : Type 0 where
+  pub P2 : mapOf (bytes 16 p1) (footprint 4 4) ≡ record { answer = 0; top = 255; lowat = 0; lowlen = 17; endat = 17; endlen = 16; extraat = 96; extralen = 0; weightat = 96; weightlen = 32 }
+  pub P2-FF : mapOf (bytes 16 p2) (footprint 4 4) ≡ mapOf (bytes 16 p1) (footprint 4 4)
+
+pub values : Values
+unfolding bitsAt bytes ranges rangeOf tops topOf totalOf cost widest isVoid isReserved lacksDH gridLow gridHigh gridOf weightR weightH weightD partsOf numberOf modeBase lowModes classIn valuesTo confLen lowOf extentOf modeBits configOf endVerdict verdict fieldsOf answer legalMap noMap mapIn p1 p2
+values = record { P2 = refl; P2-FF = refl }

@@ -1,0 +1,5 @@
+pub mod Rules
+pub mod RuleLaws
+pub mod Fields
+pub mod FieldLaws
+pub mod Values
