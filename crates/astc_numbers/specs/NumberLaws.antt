@@ -12,8 +12,8 @@ use Rattle.laws.specs.Lists.{put, put-first, put-turn}
 use Rattle.laws.specs.Numbers.{choice}
 use Rattle.footprint.specs.declared.Footprint.{Footprint}
 use Rattle.block_map.specs.Answer.{blockMap}
-use Rattle.block_map.specs.MapLaws.{map-small}
-use Rattle.block_map.specs.declared.BlockMap.{BlockMap}
+use Rattle.block_map.specs.AnswerLaws.{map-small}
+use Rattle.params_map.specs.declared.BlockMap.{BlockMap}
 use Rattle.astc_numbers.specs.Numbers.{numbersOf, mapAnswerIn, mapIn, ledTo}
 
 module _ (m d : BlockMap) (e : m ≡ d) (out : List ℕ) where

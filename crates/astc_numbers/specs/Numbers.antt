@@ -7,7 +7,7 @@ use lib.Dec.{ltb}
 use lib.ListN.{getD, length}
 use Rattle.laws.specs.Lists.{put}
 use Rattle.answers.specs.Answers.{blockLength, outputTooShort}
-use Rattle.block_map.specs.declared.BlockMap.{BlockMap}
+use Rattle.params_map.specs.declared.BlockMap.{BlockMap}
 
 -- the largest endpoint value; start and length of low configuration, endpoints, extra and weights
 unfoldable pub numbersOf : BlockMap → List ℕ

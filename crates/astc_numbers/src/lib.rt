@@ -4,9 +4,9 @@ ghost use Prim.Native.Nat.{ℕ, _≤_};
 ghost use lib.ListN.{getD, length};
 ghost use Rattle.laws.specs.Lists.{put};
 ghost use Rattle.block_map.specs.Answer.{blockMap};
-ghost use Rattle.block_map.specs.MapLaws.{Small};
+ghost use Rattle.block_map.specs.AnswerLaws.{Small};
 ghost use Rattle.astc_numbers.specs.Numbers.{numbersOf, mapAnswerIn, mapIn, ledTo};
-use block_map::BlockMap;
+use params_map::BlockMap;
 use footprint::Footprint;
 
 fn numbers_of(m: BlockMap) -> [u32; 9]

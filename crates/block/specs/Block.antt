@@ -12,7 +12,8 @@ use Rattle.sequence_ranges.specs.Digits.{tritTable, quintTable}
 use Rattle.answers.specs.Answers.{legal, voidExtent, blockLength}
 use Rattle.footprint.specs.Footprints.{texelsOf}
 use Rattle.footprint.specs.declared.Footprint.{Footprint}
-use Rattle.params.specs.Blocks.{paramsOf}
+use Rattle.params_rules.specs.Fields.{fieldsOf, answer}
+use Rattle.params.specs.Params.{paramsOf}
 use Rattle.params.specs.declared.Params.{Params}
 use Rattle.blend.specs.Blend.{wordOf}
 use Rattle.block_void.specs.Void.{voidWord}
@@ -27,7 +28,7 @@ magenta = wordOf 255 0 255 255
 
 -- the one word of a block that is not legal, by its answer
 unfoldable pub colourOf : ℕ → ℕ → ℕ
-colourOf answer v = cond (eqb answer voidExtent) (voidWord v) magenta
+colourOf a v = cond (eqb a voidExtent) (voidWord v) magenta
 
 -- of the parameters p of the block v
 unfoldable pub wordOfParams : Params → ℕ → Footprint → ℕ → ℕ
@@ -51,7 +52,7 @@ theTables = record { reversal = reversals; trits = tritTable; quints = quintTabl
 
 -- what a block at a listed footprint comes to: its answer, and its one word where it is not legal
 unfoldable pub outcomeOf : List ℕ → Footprint → Outcome
-outcomeOf s foot = let a = paramsOf (bytes 16 s) foot .answer in record { answer = a; word = cond (eqb a legal) 0 (colourOf a (bytes 16 s)) }
+outcomeOf s foot = let a = answer (fieldsOf (bytes 16 s)) foot in record { answer = a; word = cond (eqb a legal) 0 (colourOf a (bytes 16 s)) }
 
 -- the lanes h with those of a legal block's words
 unfoldable pub lanesIn : List ℕ → Footprint → List ℕ → List ℕ

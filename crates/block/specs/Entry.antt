@@ -14,9 +14,9 @@ use Rattle.bits.specs.Bits.{bytes}
 use Rattle.footprint.specs.Footprints.{texelsOf, listed}
 use Rattle.footprint.specs.declared.Footprint.{Footprint}
 use Rattle.lanes.specs.Lanes.{mostLanes, joinedAt}
-use Rattle.params.specs.Blocks.{paramsOf}
+use Rattle.params_rules.specs.Fields.{fieldsOf, answer}
+use Rattle.params_rules.specs.FieldLaws.{answer-lt}
 use Rattle.block_map.specs.Answer.{answerOf}
-use Rattle.block_map.specs.AnswerLaws.{params-answer-lt}
 use Rattle.block.specs.Block.{wordAt, paintedOf, outcomeOf, lanesIn}
 use Rattle.block.specs.OutcomeLaws.{word-one, word-legal}
 use Rattle.block.specs.declared.Outcome.{Outcome}
@@ -67,7 +67,7 @@ module _ (s : List ℕ) (foot : Footprint) (out : List ℕ) where
       → (a ≡ outcomeOf s foot .answer) × (now ≡ put (wordAt s foot) 0 (texelsOf foot) out) → Answered a now
   unfolding answerOf paintedOf outcomeOf
   painted a now l f r d =
-      rw (eq-eqb (length s) 16 l, f, le-ltb (length out) (texelsOf foot) r, lt-ltb (paramsOf (bytes 16 s) foot .answer) 20 (params-answer-lt (bytes 16 s) foot)) d
+      rw (eq-eqb (length s) 16 l, f, le-ltb (length out) (texelsOf foot) r, lt-ltb (answer (fieldsOf (bytes 16 s)) foot) 20 (answer-lt (fieldsOf (bytes 16 s)) foot)) d
 
 -- what is painted has the length of what was there
 pub length-painted : (s : List ℕ) (foot : Footprint) (out : List ℕ) → length (paintedOf s foot out) ≡ length out

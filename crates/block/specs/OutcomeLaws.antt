@@ -14,9 +14,11 @@ use Rattle.footprint.specs.Sides.{sides-of}
 use Rattle.footprint.specs.declared.Footprint.{Footprint}
 use Rattle.lanes.specs.Lanes.{mostLanes, laneAt, joinedAt, eights}
 use Rattle.lanes.specs.LaneLaws.{joined-is}
-use Rattle.params.specs.Blocks.{lowOf, paramsOf}
-use Rattle.params.specs.Config.{isVoid}
-use Rattle.params.specs.Laws.{answer-is, answer-1, void-low, void-alone}
+use Rattle.params_low.specs.Low.{isVoid}
+use Rattle.params_rules.specs.Fields.{fieldsOf, answer}
+use Rattle.params_rules.specs.FieldLaws.{answer-void, void-alone}
+use Rattle.params.specs.Params.{paramsOf}
+use Rattle.params.specs.Laws.{answer-is}
 use Rattle.block_void.specs.Void.{voidWord}
 use Rattle.block_ordinary.specs.Ordinary.{ordinaryWord, lanesOf}
 use Rattle.block_map.specs.Answer.{mapAnswer}
@@ -33,7 +35,7 @@ module _ (s : List ℕ) (foot : Footprint) where
   -- a block that is not legal has one word
   pub word-one : (t : ℕ) → (outcomeOf s foot .answer ≡ 0 → ⊥) → outcomeOf s foot .word ≡ wordAt s foot t
   unfolding outcomeOf wordAt blockWord wordOfParams
-  word-one t n = rw (ne-eqb (paramsOf (bytes 16 s) foot .answer) 0 n)
+  word-one t n = rw (answer-is (fieldsOf (bytes 16 s)) foot, ne-eqb (answer (fieldsOf (bytes 16 s)) foot) 0 n)
 
   -- a legal one has its words in its lanes
   pub word-legal : listed foot ≡ true → (before lanes : List ℕ) (t : ℕ) → length before ≡ mostLanes → lanes ≡ lanesIn s foot before → outcomeOf s foot .answer ≡ 0
@@ -41,8 +43,9 @@ module _ (s : List ℕ) (foot : Footprint) where
   unfolding outcomeOf wordAt blockWord wordOfParams lanesIn lanesOf
   word-legal l before lanes t n e z h =
       let p = paramsOf (bytes 16 s) foot in
-      let d : lanes ≡ put (laneAt (ordinaryWord p (bytes 16 s) foot)) 0 (2 * eights (texelsOf foot)) before = e ∙ rw (eq-eqb (p .answer) 0 z) in
-      rw (d, eq-eqb (p .answer) 0 z) (joined-is (ordinaryWord p (bytes 16 s) foot) (texelsOf foot) t before n (sides-of foot l .texels) h)
+      let y : p .answer ≡ 0 = answer-is (fieldsOf (bytes 16 s)) foot ∙ z in
+      let d : lanes ≡ put (laneAt (ordinaryWord p (bytes 16 s) foot)) 0 (2 * eights (texelsOf foot)) before = e ∙ rw (eq-eqb (p .answer) 0 y) in
+      rw (d, eq-eqb (p .answer) 0 y) (joined-is (ordinaryWord p (bytes 16 s) foot) (texelsOf foot) t before n (sides-of foot l .texels) h)
 
   pub lanes-length : (before lanes : List ℕ) → lanes ≡ lanesIn s foot before → length lanes ≡ length before
   unfolding lanesIn lanesOf
@@ -57,20 +60,20 @@ module _ (s : List ℕ) (foot : Footprint) (v : ℕ) (ev : v ≡ bytes 16 s) whe
   abbrev Ends : Outcome → List ℕ → List ℕ → Type 0
   Ends r before lanes = (r ≡ outcomeOf s foot) × (lanes ≡ lanesIn s foot before)
 
-  answer-void : isVoid v ≡ true → paramsOf v foot .answer ≡ 1
-  answer-void h = answer-is v foot ∙ answer-1 (lowOf v) foot (void-low v ∙ h)
-
   pub ends-void : (w : ℕ) (lanes : List ℕ) → isVoid v ≡ true → w ≡ voidWord v → Ends (record { answer = 1; word = w }) lanes lanes
   unfolding outcomeOf colourOf lanesIn lanesOf
-  ends-void w lanes h e = let a = answer-void h in rw (← ev, a, e) (refl, refl)
+  ends-void w lanes h e =
+      let a : answer (fieldsOf v) foot ≡ 1 = answer-void v foot h in
+      let p : paramsOf v foot .answer ≡ 1 = answer-is (fieldsOf v) foot ∙ a in
+      rw (← ev, a, p, e) (refl, refl)
 
-  pub ends-legal : (a : ℕ) (before lanes : List ℕ) → a ≡ 0 → (a ≡ paramsOf v foot .answer) × (lanes ≡ lanesOf v foot before) → Ends (record { answer = a; word = 0 }) before lanes
+  pub ends-legal : (a : ℕ) (before lanes : List ℕ) → a ≡ 0 → (a ≡ answer (fieldsOf v) foot) × (lanes ≡ lanesOf v foot before) → Ends (record { answer = a; word = 0 }) before lanes
   unfolding outcomeOf lanesIn
   ends-legal a before lanes z d =
-      let p : paramsOf v foot .answer ≡ 0 = sym (d .0) ∙ z in
+      let p : answer (fieldsOf v) foot ≡ 0 = sym (d .0) ∙ z in
       rw (← ev, p, z) (refl, d .1)
 
-  pub ends-refused : (a : ℕ) (before lanes : List ℕ) → isVoid v ≡ false → (a ≡ 0 → ⊥) → (a ≡ paramsOf v foot .answer) × (lanes ≡ lanesOf v foot before)
+  pub ends-refused : (a : ℕ) (before lanes : List ℕ) → isVoid v ≡ false → (a ≡ 0 → ⊥) → (a ≡ answer (fieldsOf v) foot) × (lanes ≡ lanesOf v foot before)
       → Ends (record { answer = a; word = magenta }) before lanes
   unfolding outcomeOf colourOf lanesIn
   ends-refused a before lanes h n d =

@@ -51,7 +51,7 @@ pub fn decode_lanes<'a>(
     ensures { λ r. ⌜ (r ≡ outcomeOf (now (s .entry)) f) × (now (lanes .exit) ≡ lanesIn (now (s .entry)) f (now (lanes .entry))) ⌝ }
 {
     let b = bits_load::load(s);
-    if params::is_void(b) {
+    if params_low::is_void(b) {
         return Outcome {
             answer: answers::VOID_EXTENT,
             word: block_void::void_color(b),

@@ -1,80 +1,177 @@
--- How large the answer of a block is, and the ways out of its map.
+-- How large the answer of a block and the numbers of its map are, and the ways out of the map.
 -- Assumes nothing.
-use mathlib.Core.Path.{_≡_, refl, ap, _∙_}
-use mathlib.Core.Bool.{Bool, true, false, cond, not, _&&_}
+use mathlib.Core.Path.{_≡_, refl, sym, ap, _∙_}
+use mathlib.Core.Bool.{Bool, true, false, cond, not}
 use mathlib.Core.List.{List}
-use Prim.Native.Nat.{ℕ, _+_, _*_, _/_, _≤_, _<_}
+use Prim.Native.Nat.{ℕ, _≤_, _<_}
+use native.Mathlib.Nat.{suc-ne-zero}
 use native.Mathlib.Omega.{arith}
-use lib.Dec.{eqb, ltb}
+use lib.Dec.{eqb, leb, ltb, leb→le}
 use lib.ListN.{length}
-use borrow.Author.Tests.{eq-eqb, ne-eqb, eqb-false, le-ltb}
+use borrow.Author.Tests.{eq-eqb, ne-eqb, eqb-true, eqb-false, le-ltb}
 use Rattle.laws.specs.Numbers.{choice}
+use Rattle.laws.specs.Table.{all-at}
 use Rattle.bits.specs.Bits.{bytes}
+use Rattle.sequence_ranges.specs.Ranges.{tops, topOf}
 use Rattle.footprint.specs.Footprints.{texelsOf, listed}
 use Rattle.footprint.specs.declared.Footprint.{Footprint}
-use Rattle.params.specs.Blocks.{used, weights, endVerdict, verdict, answer, lowOf, noMap, refused, paramsOf, judgedOf}
-use Rattle.params.specs.Config.{isVoid, isReserved, configOf}
-use Rattle.params.specs.declared.Config.{Config}
-use Rattle.params.specs.declared.Judged.{Judged}
-use Rattle.params.specs.Laws.{answer-is}
-use Rattle.block_map.specs.Answer.{answerOf, mapAnswer, reportOf, blockMap}
+use Rattle.params_config.specs.Config.{configOf}
+use Rattle.params_rules.specs.Fields.{fieldsOf, answer}
+use Rattle.params_rules.specs.FieldLaws.{ordinary, answer-lt}
+use Rattle.params_room.specs.RoomLaws.{range-is}
+use Rattle.params_map.specs.Map.{legalMap, noMap, mapOf}
+use Rattle.params_map.specs.MapLaws.{InOrder, map-answer as answer-mapped, map-legal, map-none, in-order}
+use Rattle.params_map.specs.declared.BlockMap.{BlockMap}
+use Rattle.block_map.specs.Answer.{answerOf, mapAnswer, blockMap}
 
--- ---- a block's answer is below every refusal
-end-lt : (k : Config) → endVerdict k < 20
-unfolding endVerdict
-end-lt k = choice (ltb 18 (k .values)) 15 _ (omega arith) (choice (ltb 128 ((13 * k .values + 4) / 5 + used k)) 16 0 (omega arith) (omega arith))
-
-verdict-lt : (k : Config) (foot : Footprint) → verdict k foot < 20
-unfolding verdict
-verdict-lt k foot =
-    choice (ltb (foot .width) (k .width)) 11 _ (omega arith)
-    (choice (ltb (foot .height) (k .height)) 11 _ (omega arith)
-    (choice (ltb 64 (weights k)) 12 _ (omega arith)
-    (choice (ltb (k .weightlen) 24) 13 _ (omega arith)
-    (choice (ltb 96 (k .weightlen)) 13 _ (omega arith)
-    (choice (eqb (k .planes) 2 && eqb (k .parts) 4) 14 _ (omega arith) (end-lt k))))))
-
-answer-lt : (c : ℕ) (foot : Footprint) → answer c foot < 20
-unfolding answer
-answer-lt c foot = choice (isVoid c) 1 _ (omega arith) (choice (isReserved c) 10 _ (omega arith) (verdict-lt (configOf c) foot))
-
-pub params-answer-lt : (v : ℕ) (foot : Footprint) → paramsOf v foot .answer < 20
-params-answer-lt v foot = rw (answer-is v foot) (answer-lt (lowOf v) foot)
-
--- and no answer is above them
+-- ---- no answer is above the refusals
 pub answer-small : (s : List ℕ) (foot : Footprint) (room : ℕ) → answerOf s foot room < 23
 unfolding answerOf
 answer-small s foot room =
-    let l = params-answer-lt (bytes 16 s) foot in
-    let m : paramsOf (bytes 16 s) foot .answer < 23 = omega arith in
+    let l = answer-lt (fieldsOf (bytes 16 s)) foot in
+    let m : answer (fieldsOf (bytes 16 s)) foot < 23 = omega arith in
     choice (not (eqb (length s) 16)) 20 _ (omega arith) (choice (not (listed foot)) 21 _ (omega arith) (choice (ltb room (texelsOf foot)) 22 _ (omega arith) m))
 
+map-answer-lt : (s : List ℕ) (foot : Footprint) → mapAnswer s foot < 23
+unfolding mapAnswer
+map-answer-lt s foot = answer-small s foot (texelsOf foot)
+
 -- ---- the ways out of the map
--- a block that is not legal has no fields
-map-none : (v : ℕ) (foot : Footprint) → (paramsOf v foot .answer ≡ 0 → ⊥) → paramsOf v foot .map ≡ noMap
-unfolding refused paramsOf
-map-none v foot h = rw (ne-eqb (answer (lowOf v) foot) 0 (λ z. h (answer-is v foot ∙ z)))
-
 module _ (s : List ℕ) (foot : Footprint) where
-  pub map-not-sixteen : (length s ≡ 16 → ⊥) → reportOf 20 noMap ≡ blockMap s foot
+  pub map-not-sixteen : (m : BlockMap) → (length s ≡ 16 → ⊥) → m ≡ noMap 20 → m ≡ blockMap s foot
   unfolding answerOf mapAnswer blockMap
-  map-not-sixteen h = rw (ne-eqb (length s) 16 h)
+  map-not-sixteen m h e = e ∙ rw (ne-eqb (length s) 16 h)
 
-  pub map-not-listed : length s ≡ 16 → listed foot ≡ false → reportOf 21 noMap ≡ blockMap s foot
+  pub map-not-listed : (m : BlockMap) → length s ≡ 16 → listed foot ≡ false → m ≡ noMap 21 → m ≡ blockMap s foot
   unfolding answerOf mapAnswer blockMap
-  map-not-listed h l = rw (eq-eqb (length s) 16 h, l)
+  map-not-listed m h l e = e ∙ rw (eq-eqb (length s) 16 h, l)
 
-  pub map-answer : length s ≡ 16 → listed foot ≡ true → mapAnswer s foot ≡ paramsOf (bytes 16 s) foot .answer
+  pub map-answer : length s ≡ 16 → listed foot ≡ true → mapAnswer s foot ≡ answer (fieldsOf (bytes 16 s)) foot
   unfolding answerOf mapAnswer
   map-answer h l = rw (eq-eqb (length s) 16 h, l, le-ltb (texelsOf foot) (texelsOf foot) (omega arith))
 
-  pub map-block : (v : ℕ) (p : Judged) → length s ≡ 16 → listed foot ≡ true → v ≡ bytes 16 s → p ≡ judgedOf (paramsOf v foot) → reportOf (p .answer) (p .map) ≡ blockMap s foot
+  pub map-block : (v : ℕ) (m : BlockMap) → length s ≡ 16 → listed foot ≡ true → v ≡ bytes 16 s → m ≡ mapOf v foot → m ≡ blockMap s foot
   unfolding blockMap
-  map-block v p h l e q = rw (map-answer h l, q, e) (ap (reportOf a) (go (eqb a 0) refl))
+  map-block v m h l e q = rw (map-answer h l, q, e) (go (eqb a 0) refl)
     where
       a : ℕ
-      a = paramsOf (bytes 16 s) foot .answer
+      a = answer (fieldsOf (bytes 16 s)) foot
 
-      go : (t : Bool) → eqb a 0 ≡ t → paramsOf (bytes 16 s) foot .map ≡ cond t (paramsOf (bytes 16 s) foot .map) noMap
+      go : (t : Bool) → eqb a 0 ≡ t → mapOf (bytes 16 s) foot ≡ cond t (mapOf (bytes 16 s) foot) (noMap a)
       go true x = refl
-      go false x = map-none (bytes 16 s) foot (eqb-false a 0 x)
+      go false x = map-none (fieldsOf (bytes 16 s)) foot a refl (eqb-false a 0 x)
+
+-- ---- a map with the answer 0
+pub record LegalMap (s : List ℕ) (foot : Footprint) : Type 0 where
+  pub sixteen : length s ≡ 16
+  pub listed : listed foot ≡ true
+  pub answer : answer (fieldsOf (bytes 16 s)) foot ≡ 0
+  pub map : blockMap s foot ≡ mapOf (bytes 16 s) foot
+
+none : (n : ℕ) → noMap n .answer ≡ n
+unfolding noMap
+none n = refl
+
+answer-in : (s : List ℕ) (foot : Footprint) → blockMap s foot .answer ≡ mapAnswer s foot
+unfolding blockMap mapAnswer answerOf
+answer-in s foot = go (eqb (length s) 16) (listed foot) refl refl
+  where
+    v : ℕ
+    v = bytes 16 s
+
+    a : ℕ
+    a = answer (fieldsOf v) foot
+
+    inner : (t : Bool) → eqb a 0 ≡ t → cond t (mapOf v foot) (noMap a) .answer ≡ a
+    inner true e = answer-mapped (fieldsOf v) foot
+    inner false e = none a
+
+    go : (t u : Bool) → eqb (length s) 16 ≡ t → listed foot ≡ u
+        → (let x : ℕ = cond (not t) 20 (cond (not u) 21 (cond (ltb (texelsOf foot) (texelsOf foot)) 22 a)) in cond (eqb x 0) (mapOf v foot) (noMap x) .answer ≡ x)
+    go false u p q = none 20
+    go true false p q = none 21
+    go true true p q = rw (le-ltb (texelsOf foot) (texelsOf foot) (omega arith)) (inner (eqb a 0) refl)
+
+pub legal-map : (s : List ℕ) (foot : Footprint) → blockMap s foot .answer ≡ 0 → LegalMap s foot
+unfolding mapAnswer answerOf blockMap
+legal-map s foot h = go (eqb (length s) 16) (listed foot) refl refl (sym (answer-in s foot) ∙ h)
+  where
+    a : ℕ
+    a = answer (fieldsOf (bytes 16 s)) foot
+
+    go : (t u : Bool) → eqb (length s) 16 ≡ t → listed foot ≡ u → cond (not t) 20 (cond (not u) 21 (cond (ltb (texelsOf foot) (texelsOf foot)) 22 a)) ≡ 0 → LegalMap s foot
+    go false u p q e = absurd (suc-ne-zero 19 e)
+    go true false p q e = absurd (suc-ne-zero 20 e)
+    go true true p q e =
+        let z : a ≡ 0 = rw (le-ltb (texelsOf foot) (texelsOf foot) (omega arith)) at e in
+        record { sixteen = eqb-true (length s) 16 p; listed = q; answer = z; map = rw (p, q, le-ltb (texelsOf foot) (texelsOf foot) (omega arith), z) }
+
+-- ---- how large its numbers are
+pub record Small (m : BlockMap) : Type 0 where
+  pub answer : m .answer < 23
+  pub top : m .top ≤ 255
+  pub lowat : m .lowat ≤ 128
+  pub lowlen : m .lowlen ≤ 128
+  pub endat : m .endat ≤ 128
+  pub endlen : m .endlen ≤ 128
+  pub extraat : m .extraat ≤ 128
+  pub extralen : m .extralen ≤ 128
+  pub weightat : m .weightat ≤ 128
+  pub weightlen : m .weightlen ≤ 128
+
+topTest : ℕ → Bool
+unfolding tops topOf
+topTest q = leb (topOf q) 255
+
+top-most : (q : ℕ) → q ≤ 20 → topOf q ≤ 255
+unfolding topTest
+top-most q h = leb→le (topOf q) 255 (all-at topTest 21 tt q (omega arith))
+
+map-top : (v : ℕ) (foot : Footprint) → answer (fieldsOf v) foot ≡ 0 → mapOf v foot .top ≤ 255
+unfolding legalMap
+map-top v foot e =
+    let w = range-is _ foot (ordinary (fieldsOf v) foot e .rules) in
+    rw (map-legal (fieldsOf v) foot e) (top-most _ (w .most))
+
+order-small : (m : BlockMap) → m .answer < 23 → m .top ≤ 255 → InOrder m → Small m
+order-small m h t o = record {
+  answer = h;
+  top = t;
+  lowat = omega (arith, o .first);
+  lowlen = omega (arith, o .ends, o .extra, o .weights, o .last);
+  endat = omega (arith, o .extra, o .weights, o .last);
+  endlen = omega (arith, o .extra, o .weights, o .last);
+  extraat = omega (arith, o .weights, o .last);
+  extralen = omega (arith, o .weights, o .last);
+  weightat = omega (arith, o .last);
+  weightlen = omega (arith, o .last);
+}
+
+none-small : (a : ℕ) → a < 23 → Small (noMap a)
+unfolding noMap
+none-small a h = record {
+  answer = h;
+  top = omega arith;
+  lowat = omega arith;
+  lowlen = omega arith;
+  endat = omega arith;
+  endlen = omega arith;
+  extraat = omega arith;
+  extralen = omega arith;
+  weightat = omega arith;
+  weightlen = omega arith;
+}
+
+other-small : (s : List ℕ) (foot : Footprint) → eqb (mapAnswer s foot) 0 ≡ false → Small (blockMap s foot)
+unfolding blockMap
+other-small s foot e = rw e (none-small (mapAnswer s foot) (map-answer-lt s foot))
+
+pub map-small : (s : List ℕ) (foot : Footprint) → Small (blockMap s foot)
+map-small s foot = go (eqb (blockMap s foot .answer) 0) refl
+  where
+    go : (t : Bool) → eqb (blockMap s foot .answer) 0 ≡ t → Small (blockMap s foot)
+    go true e =
+        let l = legal-map s foot (eqb-true _ 0 e) in
+        let z : mapOf (bytes 16 s) foot .answer ≡ 0 = answer-mapped (fieldsOf (bytes 16 s)) foot ∙ l .answer in
+        rw (l .map) (order-small _ (omega (arith, z)) (map-top (bytes 16 s) foot (l .answer)) (in-order (bytes 16 s) foot z))
+    go false e = other-small s foot (rw (answer-in s foot) at e)

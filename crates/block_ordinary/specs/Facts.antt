@@ -5,62 +5,36 @@ use mathlib.Core.Bool.{true}
 use mathlib.Core.List.{List}
 use Prim.Native.Nat.{ℕ, zero, suc, _/_, _≤_, _<_}
 use native.Mathlib.Omega.{arith}
-use lib.Dec.{eqb, ltb}
 use lib.ListN.{getD}
-use borrow.Author.Tests.{lt-ltb}
-use Rattle.laws.specs.Numbers.{choice}
-use Rattle.bits.specs.Bits.{bitsAt}
-use Rattle.bits.specs.BitLaws.{bits-lt}
 use Rattle.bits_reversal.specs.Reversals.{reversals}
 use Rattle.sequence_ranges.specs.Digits.{tritTable, quintTable}
 use Rattle.sequence_ranges.specs.Ranges.{rangeOf, totalOf}
 use Rattle.footprint.specs.Footprints.{listed}
 use Rattle.footprint.specs.Sides.{Sides, sides-of}
 use Rattle.footprint.specs.declared.Footprint.{Footprint}
-use Rattle.params.specs.Ranges.{cost}
-use Rattle.params.specs.Config.{partsOf, classOf, modeOf, numberOf, valuesTo, configOf}
-use Rattle.params.specs.Bounds.{small, class-most, rest-most, parts-most}
-use Rattle.params.specs.Blocks.{answer, lowOf, mapOf, modesOf, legal, paramsOf}
-use Rattle.params.specs.Laws.{ordinary, legal-is, answer-is, range-is, mode-class}
+use Rattle.params_modes.specs.Modes.{classIn, modesOf, valuesTo}
+use Rattle.params_modes.specs.ModeLaws.{modes-lt, mode-is, mode-class}
+use Rattle.params_config.specs.Ranges.{cost}
+use Rattle.params_config.specs.Config.{partsOf, modeBase, configOf}
+use Rattle.params_config.specs.Bounds.{small}
+use Rattle.params_rules.specs.Fields.{fieldsOf, answer}
+use Rattle.params_rules.specs.FieldLaws.{ordinary}
+use Rattle.params_room.specs.RoomLaws.{range-is}
+use Rattle.params.specs.Params.{legal, paramsOf}
+use Rattle.params.specs.Laws.{answer-is, legal-is, code-is, code-values}
 use Rattle.params.specs.declared.Params.{Params}
 use Rattle.endpoints.specs.Endpoints.{countTo}
 use Rattle.weights.specs.Given.{Fits}
 use Rattle.block_ordinary.specs.Ordinary.{gridOf, countOf}
 
--- ---- the modes
-mode-lt : (c x i : ℕ) → modeOf c x i < 16
-unfolding modeOf
-mode-lt c x i = omega (arith, class-most c i, rest-most c x i)
-
-modes-lt : (c x i : ℕ) → getD (modesOf c x) i 0 < 16
-modes-lt c x zero = choice (ltb 0 (partsOf c)) _ 0 (mode-lt c x 0) (omega arith)
-modes-lt c x (suc zero) = choice (ltb 1 (partsOf c)) _ 0 (mode-lt c x 1) (omega arith)
-modes-lt c x (suc (suc zero)) = choice (ltb 2 (partsOf c)) _ 0 (mode-lt c x 2) (omega arith)
-modes-lt c x (suc (suc (suc zero))) = choice (ltb 3 (partsOf c)) _ 0 (mode-lt c x 3) (omega arith)
-modes-lt c x (suc (suc (suc (suc i)))) = omega arith
-
-mode-at : (c x i : ℕ) → i < 4 → i < partsOf c → getD (modesOf c x) i 0 ≡ modeOf c x i
-mode-at c x zero h l = rw (lt-ltb 0 (partsOf c) l)
-mode-at c x (suc zero) h l = rw (lt-ltb 1 (partsOf c) l)
-mode-at c x (suc (suc zero)) h l = rw (lt-ltb 2 (partsOf c) l)
-mode-at c x (suc (suc (suc zero))) h l = rw (lt-ltb 3 (partsOf c) l)
-mode-at c x (suc (suc (suc (suc i)))) h l = absurd (no h)
-  where
-    no : suc (suc (suc (suc i))) < 4 → ⊥
-    no g = omega arith
-
--- the values of the first n partitions, as the parameters count them and as the endpoints do
-count-is : (c x n : ℕ) → n ≤ partsOf c → countTo (modesOf c x) n ≡ valuesTo c n
+-- ---- the values of the first n partitions, as the parameters count them and as the endpoints do
+count-is : (parts base code n : ℕ) → parts ≤ 4 → n ≤ parts → countTo (modesOf parts base code) n ≡ valuesTo base code n
 unfolding countTo valuesTo
-count-is c x zero h = refl
-count-is c x (suc n) h =
-    let l : n < 4 = omega (arith, parts-most c) in
-    let e : getD (modesOf c x) n 0 / 4 ≡ classOf c n = ap (λ (m : ℕ). m / 4) (mode-at c x n l (omega arith)) ∙ mode-class c x n in
-    rw (count-is c x n (omega arith), e)
-
-number-lt : (c : ℕ) → numberOf c < 1024
-unfolding numberOf
-number-lt c = choice (eqb (partsOf c) 1) 0 (bitsAt c 13 10) (omega arith) (bits-lt c 13 10)
+count-is parts base code zero m h = refl
+count-is parts base code (suc n) m h =
+    let l : n < 4 = omega arith in
+    let e : getD (modesOf parts base code) n 0 / 4 ≡ classIn base code n = ap (λ (m : ℕ). m / 4) (mode-is parts base code n l (omega arith)) ∙ mode-class parts base code n in
+    rw (count-is parts base code n m (omega arith), e)
 
 -- ---- the parameters of a legal block
 pub record Facts (p : Params) : Type 0 where
@@ -76,10 +50,9 @@ pub record Facts (p : Params) : Type 0 where
   pub planes : (1 ≤ p .config .planes) × (p .config .planes ≤ 2)
   pub modes : (i : ℕ) → getD (p .modes) i 0 < 16
   pub count : countTo (p .modes) (p .config .parts) ≡ p .config .values
-  pub number : p .number < 1024
-  pub ends-at : p .map .endat ≡ p .config .lowlen
-  pub ends-len : p .map .endlen ≡ totalOf (rangeOf (p .range)) (p .config .values)
-  pub weights-len : p .map .weightlen ≡ totalOf (rangeOf (p .config .range)) (countOf p)
+  pub number : p .config .number < 1024
+  pub ends-len : cost (p .range) (p .config .values) ≡ totalOf (rangeOf (p .range)) (p .config .values)
+  pub weights-len : p .config .weightlen ≡ totalOf (rangeOf (p .config .range)) (countOf p)
 
 -- and what its grid is at a footprint
 pub record Ready (p : Params) (foot : Footprint) : Type 0 where
@@ -88,14 +61,16 @@ pub record Ready (p : Params) (foot : Footprint) : Type 0 where
   pub sides : Sides foot
 
 pub ready : (p : Params) (v : ℕ) (foot : Footprint) → p ≡ paramsOf v foot → p .answer ≡ 0 → listed foot ≡ true → Ready p foot
-unfolding legal configOf mapOf cost
+unfolding legal configOf cost
 ready p v foot e z s =
-    let a : answer (lowOf v) foot ≡ 0 = sym (answer-is v foot) ∙ ap (λ (q : Params). q .answer) (sym e) ∙ z in
+    let t = fieldsOf v in
+    let a : answer t foot ≡ 0 = sym (answer-is t foot) ∙ ap (λ (q : Params). q .answer) (sym e) ∙ z in
     let f = sides-of foot s in
-    let k = small (lowOf v) in
-    let l = ordinary (lowOf v) foot a .rules in
-    let w = range-is (lowOf v) foot a in
-    rw (e, legal-is v foot a)
+    let c = t .low in
+    let k = small c in
+    let l = ordinary t foot a .rules in
+    let w = range-is _ foot l in
+    rw (e, legal-is t foot a)
     (record {
       facts = record {
         width = k .width;
@@ -108,10 +83,9 @@ ready p v foot e z s =
         part = k .part;
         parts = k .parts;
         planes = (k .plane, k .planes);
-        modes = modes-lt (lowOf v) _;
-        count = count-is (lowOf v) _ (partsOf (lowOf v)) (omega arith);
-        number = number-lt (lowOf v);
-        ends-at = refl;
+        modes = modes-lt (modeBase c) _ (code-is (configOf c) (t .extra) k) (partsOf c);
+        count = count-is (partsOf c) (modeBase c) _ (partsOf c) (k .parts) (omega arith) ∙ code-values (configOf c) (t .extra) (partsOf c) (k .parts);
+        number = k .number;
         ends-len = refl;
         weights-len = refl;
       };

@@ -7,14 +7,12 @@ use Prim.Native.Nat.{ℕ, _*_}
 use lib.Dec.{eqb}
 use lib.ListN.{replicate}
 use Rattle.laws.specs.Lists.{put}
-use Rattle.bits.specs.Bits.{bitsAt, reversed}
 use Rattle.sequence_ranges.specs.Ranges.{rangeOf}
 use Rattle.sequence_values.specs.Sequence.{valuesOf}
 use Rattle.footprint.specs.Footprints.{texelsOf, mostTexels}
 use Rattle.footprint.specs.declared.Footprint.{Footprint}
 use Rattle.lanes.specs.Lanes.{laneAt, eights}
-use Rattle.params.specs.Blocks.{paramsOf}
-use Rattle.params.specs.declared.Map.{Map}
+use Rattle.params.specs.Params.{paramsOf, endsField, weightsField}
 use Rattle.params.specs.declared.Params.{Params}
 use Rattle.endpoints_unquantise.specs.Unquantised.{endpointValues}
 use Rattle.endpoints.specs.Endpoints.{endpointsList}
@@ -42,19 +40,12 @@ weightsIn p foot field = weightsOf (gridOf p foot) (p .config .range) (valuesOf 
 -- the partition of each of its texels: the first where there is one alone
 unfoldable pub partitionsIn : Params → Footprint → List ℕ
 partitionsIn p foot =
-    cond (eqb (p .config .parts) 1) (replicate mostTexels 0) (put (partitionAt (p .number) (p .config .parts) foot) 0 (texelsOf foot) (replicate mostTexels 0))
-
--- ---- the fields of the block v
-abbrev pub endsField : Map → ℕ → ℕ
-endsField m v = bitsAt v (m .endat) (m .endlen)
-
-abbrev pub weightsField : Map → ℕ → ℕ
-weightsField m v = bitsAt (reversed 128 v) 0 (m .weightlen)
+    cond (eqb (p .config .parts) 1) (replicate mostTexels 0) (put (partitionAt (p .config .number) (p .config .parts) foot) 0 (texelsOf foot) (replicate mostTexels 0))
 
 -- ---- the word of texel t
 unfoldable pub ordinaryWord : Params → ℕ → Footprint → ℕ → ℕ
 ordinaryWord p v foot t =
-    texelWord (endsOf p (endsField (p .map) v)) (weightsIn p foot (weightsField (p .map) v)) (partitionsIn p foot) (p .config .planes) (p .channel) t
+    texelWord (endsOf p (endsField p v)) (weightsIn p foot (weightsField p v)) (partitionsIn p foot) (p .config .planes) (p .channel) t
 
 -- ---- the code's step: the lanes h with those of a legal block's words, to the next multiple of 8 texels
 unfoldable pub lanesOf : ℕ → Footprint → List ℕ → List ℕ

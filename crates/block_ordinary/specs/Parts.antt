@@ -20,7 +20,9 @@ use Rattle.sequence_values.specs.SequenceLaws.{values-lt, values-past}
 use Rattle.footprint.specs.Footprints.{texelsOf, mostTexels, mostWeights}
 use Rattle.footprint.specs.declared.Footprint.{Footprint}
 use Rattle.lanes.specs.Lanes.{laneAt, eights}
-use Rattle.params.specs.Blocks.{paramsOf}
+use Rattle.params_rules.specs.Fields.{fieldsOf, answer}
+use Rattle.params.specs.Params.{paramsOf, endsField, weightsField}
+use Rattle.params.specs.Laws.{answer-is}
 use Rattle.params.specs.declared.Params.{Params}
 use Rattle.endpoints_unquantise.specs.Unquantised.{endpointValues}
 use Rattle.endpoints_unquantise.specs.Bounds.{values-lt as endpoint-values-lt}
@@ -36,7 +38,7 @@ use Rattle.partition.specs.Partition.{partitionAt}
 use Rattle.partition.specs.PartitionLaws.{partition-below}
 use Rattle.texels.specs.Given.{Given as PaintGiven}
 use Rattle.texels.specs.Texels.{texelWord}
-use Rattle.block_ordinary.specs.Ordinary.{endsOf, endsField, gridOf, countOf, weightsIn, weightsField, partitionsIn, ordinaryWord, lanesOf}
+use Rattle.block_ordinary.specs.Ordinary.{endsOf, gridOf, countOf, weightsIn, partitionsIn, ordinaryWord, lanesOf}
 use Rattle.block_ordinary.specs.Facts.{Facts, Ready}
 
 -- ---- a range that a call is given
@@ -52,9 +54,9 @@ past w n r seq d i h = rw d (values-past r w n i h)
 module _ (p : Params) (v : ℕ) (f : Facts p) (r : Range) (seq : List ℕ) where
   -- ---- the endpoints
   pub ends-is : (ev : List ℕ) (e : List Endpoints) → r ≡ rangeOf (p .range) → seq ≡ valuesOf r (bitsAt v (p .config .lowlen) (totalOf r (p .config .values))) (p .config .values)
-      → ev ≡ endpointValues (p .range) seq → e ≡ endpointsList (p .config .parts) (p .modes) ev → e ≡ endsOf p (endsField (p .map) v)
+      → ev ≡ endpointValues (p .range) seq → e ≡ endpointsList (p .config .parts) (p .modes) ev → e ≡ endsOf p (endsField p v)
   unfolding endsOf
-  ends-is ev e a b c d = d ∙ rw (c, b, a, f .ends-at, f .ends-len)
+  ends-is ev e a b c d = d ∙ rw (c, b, a, f .ends-len)
 
 -- ---- the weights
 module _ (p : Params) (foot : Footprint) (v : ℕ) (k : Ready p foot) (r : Range) (seq : List ℕ) where
@@ -67,7 +69,7 @@ module _ (p : Params) (foot : Footprint) (v : ℕ) (k : Ready p foot) (r : Range
   }
 
   pub weights-is : (out : List ℕ) → r ≡ rangeOf (p .config .range) → seq ≡ valuesOf r (bitsAt (reversed 128 v) 0 (totalOf r (countOf p))) (countOf p)
-      → out ≡ weightsOf (gridOf p foot) (p .config .range) seq → out ≡ weightsIn p foot (weightsField (p .map) v)
+      → out ≡ weightsOf (gridOf p foot) (p .config .range) seq → out ≡ weightsIn p foot (weightsField p v)
   unfolding weightsIn
   weights-is out a b c = c ∙ rw (b, a, k .facts .weights-len)
 
@@ -77,7 +79,7 @@ unfolding partitionsIn
 partitions-one p foot out e h = e ∙ rw (eq-eqb (p .config .parts) 1 h)
 
 pub partitions-more : (p : Params) (foot : Footprint) (out s : List ℕ) → s ≡ replicate mostTexels 0 → (p .config .parts ≡ 1 → ⊥)
-    → out ≡ put (partitionAt (p .number) (p .config .parts) foot) 0 (texelsOf foot) s → out ≡ partitionsIn p foot
+    → out ≡ put (partitionAt (p .config .number) (p .config .parts) foot) 0 (texelsOf foot) s → out ≡ partitionsIn p foot
 unfolding partitionsIn
 partitions-more p foot out s e h d = d ∙ rw (e, ne-eqb (p .config .parts) 1 h)
 
@@ -106,11 +108,11 @@ module _ (p : Params) (foot : Footprint) (f : Facts p) where
   partitions-below n i = go (eqb (p .config .parts) 1) refl
     where
       go : (t : Bool) → eqb (p .config .parts) 1 ≡ t
-          → getD (cond t (replicate mostTexels 0) (put (partitionAt (p .number) (p .config .parts) foot) 0 (texelsOf foot) (replicate mostTexels 0))) i 0 < p .config .parts
+          → getD (cond t (replicate mostTexels 0) (put (partitionAt (p .config .number) (p .config .parts) foot) 0 (texelsOf foot) (replicate mostTexels 0))) i 0 < p .config .parts
       go true e = omega (arith, f .part, zeros-are mostTexels i)
       go false e =
-          rw (zeros-at (partitionAt (p .number) (p .config .parts) foot) (texelsOf foot) mostTexels i n)
-          (choice (ltb i (texelsOf foot)) _ 0 (partition-below (p .number) (p .config .parts) foot i (omega (arith, f .part, eqb-false (p .config .parts) 1 e)) (f .parts)) (omega (arith, f .part)))
+          rw (zeros-at (partitionAt (p .config .number) (p .config .parts) foot) (texelsOf foot) mostTexels i n)
+          (choice (ltb i (texelsOf foot)) _ 0 (partition-below (p .config .number) (p .config .parts) foot i (omega (arith, f .part, eqb-false (p .config .parts) 1 e)) (f .parts)) (omega (arith, f .part)))
 
   pub paint-given : (n : ℕ) (ends : List Endpoints) (w parts : List ℕ) (field field′ : ℕ) → n ≡ texelsOf foot → texelsOf foot ≤ mostTexels → ends ≡ endsOf p field → w ≡ weightsIn p foot field′ → parts ≡ partitionsIn p foot
       → PaintGiven n (p .config .parts) (p .config .planes) ends w parts
@@ -124,7 +126,7 @@ module _ (p : Params) (foot : Footprint) (f : Facts p) where
     mapped = λ i. rw c (partitions-below h i);
   }
 
-pub painted-is : (p : Params) (v : ℕ) (foot : Footprint) (n : ℕ) (ends : List Endpoints) (w parts s out : List ℕ) → ends ≡ endsOf p (endsField (p .map) v) → w ≡ weightsIn p foot (weightsField (p .map) v)
+pub painted-is : (p : Params) (v : ℕ) (foot : Footprint) (n : ℕ) (ends : List Endpoints) (w parts s out : List ℕ) → ends ≡ endsOf p (endsField p v) → w ≡ weightsIn p foot (weightsField p v)
     → parts ≡ partitionsIn p foot → n ≡ texelsOf foot → out ≡ put (laneAt (texelWord ends w parts (p .config .planes) (p .channel))) 0 (2 * eights n) s
     → out ≡ put (laneAt (ordinaryWord p v foot)) 0 (2 * eights (texelsOf foot)) s
 unfolding ordinaryWord
@@ -132,6 +134,9 @@ painted-is p v foot n ends w parts s out a b c e d = d ∙ rw (a, b, c, e)
 
 -- ---- the code has painted the lanes of a legal block's words, or none
 module _ (p : Params) (v : ℕ) (foot : Footprint) (q : p ≡ paramsOf v foot) where
+  pub answer-told : p .answer ≡ answer (fieldsOf v) foot
+  answer-told = ap (λ (x : Params). x .answer) q ∙ answer-is (fieldsOf v) foot
+
   pub lanes-legal : (s out : List ℕ) → p .answer ≡ 0 → out ≡ put (laneAt (ordinaryWord p v foot)) 0 (2 * eights (texelsOf foot)) s → out ≡ lanesOf v foot s
   unfolding lanesOf
   lanes-legal s out z d = rw (← q, eq-eqb (p .answer) 0 z) d

@@ -1,6 +1,6 @@
 // A block that is not void: from its fields to the lanes of its texels.
 ghost use mathlib.Core.Path.{_≡_};
-ghost use mathlib.Core.Bool.{true};
+ghost use mathlib.Core.Bool.{true, false};
 ghost use Prim.Native.Nat.{_*_};
 ghost use lib.ListN.{replicate};
 ghost use Rattle.laws.specs.Lists.{put};
@@ -10,9 +10,10 @@ ghost use Rattle.sequence_ranges.specs.Digits.{tritTable, quintTable};
 ghost use Rattle.footprint.specs.Footprints.{texelsOf, mostTexels, mostWeights, listed};
 ghost use Rattle.footprint.specs.Sides.{Sides};
 ghost use Rattle.lanes.specs.Lanes.{laneAt, eights};
-ghost use Rattle.params.specs.Blocks.{paramsOf};
-ghost use Rattle.weights.specs.Given.{Fits};
-ghost use Rattle.block_ordinary.specs.Ordinary.{endsOf, endsField, gridOf, weightsIn, weightsField, partitionsIn, ordinaryWord, lanesOf};
+ghost use Rattle.params_low.specs.Low.{isVoid};
+ghost use Rattle.params_rules.specs.Fields.{fieldsOf, answer};
+ghost use Rattle.params.specs.Params.{endsField, weightsField};
+ghost use Rattle.block_ordinary.specs.Ordinary.{endsOf, weightsIn, partitionsIn, ordinaryWord, lanesOf};
 ghost use Rattle.block_ordinary.specs.Facts.{Facts, Ready, Lent};
 use bits::Block;
 use endpoints_colours::Endpoints;
@@ -26,7 +27,7 @@ use weights::Grid;
 // The endpoints of a legal block's partitions.
 fn ends_of(t: &[u16; 256], q: &[u16; 128], b: Block, p: Params) -> [Endpoints; 4]
     requires { ⌜ (now t ≡ tritTable) × ((now q ≡ quintTable) × (Facts p)) ⌝ }
-    ensures { λ r. ⌜ r ≡ endsOf p (endsField (p .map) (valueOf b)) ⌝ }
+    ensures { λ r. ⌜ r ≡ endsOf p (endsField p (valueOf b)) ⌝ }
 {
     let k = p.config;
     let range = p.range;
@@ -57,7 +58,7 @@ fn weights_of(
     f: Footprint,
 )
     requires { ⌜ (now out ≡ replicate mostWeights 0) × ((Lent (now rev) (now t) (now q)) × (Ready p f)) ⌝ }
-    ensures { λ _. ⌜ now (out .exit) ≡ weightsIn p f (weightsField (p .map) (valueOf b)) ⌝ }
+    ensures { λ _. ⌜ now (out .exit) ≡ weightsIn p f (weightsField p (valueOf b)) ⌝ }
 {
     let k = p.config;
     let mut seq = [0u8; 72];
@@ -88,7 +89,7 @@ fn partition_of(out: &mut [u8; TEXELS], p: Params, f: Footprint)
     if k.parts == 1 {
         return;
     }
-    partition::select_partition(out, p.number as u32, k.parts, f);
+    partition::select_partition(out, k.number as u32, k.parts, f);
 }
 
 // What is known of a legal ordinary block before its texels are painted.
@@ -141,7 +142,7 @@ fn paint_ordinary(
     );
 }
 
-// Puts the lanes of a legal block's words at a listed footprint, with lent tables; any other block puts none. It gives the answer.
+// Puts the lanes of a legal block's words at a listed footprint, with lent tables; a block that breaks a rule puts none. It gives the answer.
 pub fn decode_ordinary(
     rev: &[u8; 256],
     t: &[u16; 256],
@@ -150,8 +151,8 @@ pub fn decode_ordinary(
     f: Footprint,
     lanes: &mut [u16; LANES],
 ) -> usize
-    requires { ⌜ (Lent (now rev) (now t) (now q)) × (listed f ≡ true) ⌝ }
-    ensures { λ a. ⌜ (a ≡ paramsOf (valueOf b) f .answer) × (now (lanes .exit) ≡ lanesOf (valueOf b) f (now (lanes .entry))) ⌝ }
+    requires { ⌜ (Lent (now rev) (now t) (now q)) × ((isVoid (valueOf b) ≡ false) × (listed f ≡ true)) ⌝ }
+    ensures { λ a. ⌜ (a ≡ answer (fieldsOf (valueOf b)) f) × (now (lanes .exit) ≡ lanesOf (valueOf b) f (now (lanes .entry))) ⌝ }
 {
     let p = params::decode_block_params(b, f);
     let a = p.answer;

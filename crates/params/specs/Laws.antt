@@ -10,7 +10,8 @@ use lib.Pow.{pow-mono}
 use borrow.Author.Tests.{eq-eqb, ne-eqb, eqb-true, eqb-false}
 use Rattle.laws.specs.Numbers.{choice}
 use Rattle.bits.specs.Bits.{bitsAt, reversed}
-use Rattle.bits.specs.BitLaws.{bits-lt, reversed-top}
+use Rattle.bits.specs.BitLaws.{bits-lt}
+use Rattle.bits_reversal.specs.ReversalLaws.{reversed-top}
 use Rattle.footprint.specs.declared.Footprint.{Footprint}
 use Rattle.params_low.specs.Low.{isVoid, lowOf}
 use Rattle.params_modes.specs.Modes.{modesOf, valuesTo}
@@ -20,7 +21,7 @@ use Rattle.params_config.specs.Bounds.{Small, small}
 use Rattle.params_config.specs.declared.Config.{Config}
 use Rattle.params_rules.specs.Rules.{used, verdict}
 use Rattle.params_rules.specs.Fields.{Fields, fieldsOf, extraIn, answer}
-use Rattle.params_rules.specs.FieldLaws.{ordinary, low-is, extra-is, told-void, told-reserved, told-rule}
+use Rattle.params_rules.specs.FieldLaws.{ordinary, low-is, extra-is, told-reserved, told-rule}
 use Rattle.params_room.specs.RoomLaws.{Widest, range-is}
 use Rattle.params_map.specs.Map.{legalMap, mapIn, mapOf}
 use Rattle.params_map.specs.MapLaws.{map-answer, map-legal, in-order, Mapped, SameBlock, unmapped}
@@ -46,23 +47,20 @@ module _ (t : Fields) (f : Footprint) where
   unfolding paramsIn
   refused-is a e z = rw (e, ne-eqb a 0 z)
 
--- ---- the ways out of the code, by its flags and its parts' results
-pub out-void : (v : ℕ) (f : Footprint) (r : Params) (w : Bool) → w ≡ isVoid v → w ≡ true → r ≡ refused 1 → r ≡ paramsOf v f
-out-void v f r w i j g = g ∙ sym (refused-is (fieldsOf v) f 1 (told-void v f w i j) (λ h. omega arith))
+-- ---- the ways out of the code for a block that is not void, by its flag and its parts' results
+pub out-reserved : (v : ℕ) (f : Footprint) (c : ℕ) (r : Params) (s : Bool) → c ≡ lowOf v → isVoid v ≡ false → s ≡ isReserved c → s ≡ true → r ≡ refused 10 → r ≡ paramsOf v f
+out-reserved v f c r s q h m n g = g ∙ sym (refused-is (fieldsOf v) f 10 (told-reserved v f (isVoid v) refl h c q s m n) (λ x. omega arith))
 
-pub out-reserved : (v : ℕ) (f : Footprint) (c : ℕ) (r : Params) (w s : Bool) → c ≡ lowOf v → w ≡ isVoid v → w ≡ false → s ≡ isReserved c → s ≡ true → r ≡ refused 10 → r ≡ paramsOf v f
-out-reserved v f c r w s q i j m n g = g ∙ sym (refused-is (fieldsOf v) f 10 (told-reserved v f w i j c q s m n) (λ h. omega arith))
+pub out-rule : (v : ℕ) (f : Footprint) (c a : ℕ) (k : Config) (r : Params) (s : Bool) → c ≡ lowOf v → isVoid v ≡ false → s ≡ isReserved c → s ≡ false → k ≡ configOf c → a ≡ verdict k f → (a ≡ 0 → ⊥) → r ≡ refused a → r ≡ paramsOf v f
+out-rule v f c a k r s q h m n o p z g = g ∙ sym (refused-is (fieldsOf v) f a (told-rule v f (isVoid v) refl h c q s m n k o a p) z)
 
-pub out-rule : (v : ℕ) (f : Footprint) (c a : ℕ) (k : Config) (r : Params) (w s : Bool) → c ≡ lowOf v → w ≡ isVoid v → w ≡ false → s ≡ isReserved c → s ≡ false → k ≡ configOf c → a ≡ verdict k f → (a ≡ 0 → ⊥) → r ≡ refused a → r ≡ paramsOf v f
-out-rule v f c a k r w s q i j m n o p z g = g ∙ sym (refused-is (fieldsOf v) f a (told-rule v f w i j c q s m n k o a p) z)
-
-pub out-legal : (v : ℕ) (f : Footprint) (c a : ℕ) (k : Config) (r : Params) (w s : Bool) → c ≡ lowOf v → w ≡ isVoid v → w ≡ false → s ≡ isReserved c → s ≡ false → k ≡ configOf c → a ≡ verdict k f → a ≡ 0 → r ≡ legal k (extraIn k v) → r ≡ paramsOf v f
-out-legal v f c a k r w s q i j m n o p z g =
+pub out-legal : (v : ℕ) (f : Footprint) (c a : ℕ) (k : Config) (r : Params) (s : Bool) → c ≡ lowOf v → isVoid v ≡ false → s ≡ isReserved c → s ≡ false → k ≡ configOf c → a ≡ verdict k f → a ≡ 0 → r ≡ legal k (extraIn k v) → r ≡ paramsOf v f
+out-legal v f c a k r s q h m n o p z g =
     let d : k ≡ configOf (lowOf v) = o ∙ ap configOf q in
     g ∙ ap (λ (x : Config). legal x (extraIn x v)) d
     ∙ ap (legal (configOf (lowOf v))) (sym (extra-is v))
     ∙ ap (λ (x : ℕ). legal (configOf x) (fieldsOf v .extra)) (sym (low-is v))
-    ∙ sym (legal-is (fieldsOf v) f (told-rule v f w i j c q s m n k o a p ∙ z))
+    ∙ sym (legal-is (fieldsOf v) f (told-rule v f (isVoid v) refl h c q s m n k o a p ∙ z))
 
 -- ---- the extra field has ten bits at most
 extra-lt : (v s n : ℕ) → n ≤ 10 → bitsAt v s n < 1024

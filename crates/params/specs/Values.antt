@@ -2,8 +2,8 @@
 -- Assumes nothing.
 use mathlib.Core.Path.{_≡_, refl}
 use Rattle.bits.specs.Bits.{bitsAt, bytes}
-use Rattle.sequence.specs.Ranges.{ranges, rangeOf}
-use Rattle.sequence.specs.Sequence.{totalOf}
+use Rattle.sequence_ranges.specs.Ranges.{ranges, rangeOf}
+use Rattle.sequence_ranges.specs.Ranges.{totalOf}
 use Rattle.footprint.specs.Footprints.{footprint}
 use Rattle.params_low.specs.Low.{isVoid, confLen, lowOf, extentOf}
 use Rattle.params_modes.specs.Modes.{classIn, modeIn, valuesTo}

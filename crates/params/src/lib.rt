@@ -3,8 +3,10 @@ use bits::Block;
 use footprint::Footprint;
 use params_config::Config;
 ghost use mathlib.Core.Path.{_≡_};
+ghost use mathlib.Core.Bool.{false};
 ghost use Prim.Native.Nat.{_+_, _<_};
 ghost use Rattle.bits.specs.Blocks.{valueOf};
+ghost use Rattle.params_low.specs.Low.{isVoid};
 ghost use Rattle.params_modes.specs.ModeLaws.{Coded};
 ghost use Rattle.params_rules.specs.Fields.{extraIn};
 ghost use Rattle.params_room.specs.RoomLaws.{Given};
@@ -97,14 +99,12 @@ fn refuse(answer: usize) -> Params
     }
 }
 
-// The parameters of the block b at the footprint f. The decoder has this function to itself, where params_map has the map: it is then
-// compiled into the decoder, and what nobody reads there is not worked out.
+// The parameters of the block b, which is not void, at the footprint f. The decoder has this function to itself, where params_map has the map:
+// it is then compiled into the decoder, and what nobody reads there is not worked out.
 pub fn decode_block_params(b: Block, f: Footprint) -> Params
+    requires { ⌜ isVoid (valueOf b) ≡ false ⌝ }
     ensures { λ r. ⌜ r ≡ paramsOf (valueOf b) f ⌝ }
 {
-    if params_low::is_void(b) {
-        return refuse(answers::VOID_EXTENT);
-    }
     let c = params_low::low_config(b);
     if params_config::is_reserved(c) {
         return refuse(answers::RESERVED_MODE);

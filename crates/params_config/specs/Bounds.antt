@@ -12,11 +12,11 @@ use Rattle.bits.specs.Bits.{bitsAt}
 use Rattle.bits.specs.BitLaws.{bits-lt}
 use Rattle.laws.specs.Table.{all-at}
 use Rattle.laws.specs.Numbers.{choice, choice-le}
-use Rattle.sequence.specs.Ranges.{rangeOf, most}
-use Rattle.sequence.specs.Sequence.{per, shared, totalOf}
-use Rattle.sequence.specs.SequenceLaws.{legal}
-use Rattle.sequence.specs.declared.Kind.{Kind}
-use Rattle.sequence.specs.declared.Kind.the-variants.{Plain, Trits, Quints}
+use Rattle.sequence_ranges.specs.Ranges.{rangeOf, most}
+use Rattle.sequence_ranges.specs.Ranges.{per, shared, totalOf}
+use Rattle.sequence_ranges.specs.RangeLaws.{legal}
+use Rattle.sequence_ranges.specs.declared.Kind.{Kind}
+use Rattle.sequence_ranges.specs.declared.Kind.the-variants.{Plain, Trits, Quints}
 use Rattle.params_low.specs.LowLaws.{conf-most}
 use Rattle.params_modes.specs.ModeLaws.{Coded, values-most, values-even, values-least}
 use Rattle.params_config.specs.Ranges.{cost}

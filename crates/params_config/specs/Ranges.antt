@@ -1,8 +1,8 @@
 -- The bits that values of a range take.
 -- Assumes nothing.
 use Prim.Native.Nat.{ℕ}
-use Rattle.sequence.specs.Ranges.{rangeOf}
-use Rattle.sequence.specs.Sequence.{totalOf}
+use Rattle.sequence_ranges.specs.Ranges.{rangeOf}
+use Rattle.sequence_ranges.specs.Ranges.{totalOf}
 
 -- the bits of n values of the range of number q
 unfoldable pub cost : ℕ → ℕ → ℕ

@@ -33,7 +33,7 @@ fn range_bits(q: usize, n: usize) -> usize
     requires { ⌜ (q < 21) × (n ≤ 288) ⌝ }
     ensures { λ r. ⌜ r ≡ cost q n ⌝ }
 {
-    sequence::total(sequence::range_of(q), n)
+    sequence_ranges::total(sequence_ranges::range_of(q), n)
 }
 
 // Whether the block mode is one that no block may have.

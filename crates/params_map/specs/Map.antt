@@ -5,7 +5,7 @@ use Prim.Native.Nat.{ℕ, _-_}
 use lib.Dec.{eqb}
 use Rattle.answers.specs.Answers.{legal}
 use Rattle.footprint.specs.declared.Footprint.{Footprint}
-use Rattle.sequence.specs.Ranges.{topOf}
+use Rattle.sequence_ranges.specs.Ranges.{topOf}
 use Rattle.params_config.specs.Ranges.{cost}
 use Rattle.params_config.specs.Config.{configOf}
 use Rattle.params_config.specs.declared.Config.{Config}

@@ -6,7 +6,7 @@ use Prim.Native.Nat.{ℕ, _-_, _*_, _/_, _%_, _^_, _≤_, _<_}
 use lib.Dec.{eqb, leb, leb→le, eqb→eq}
 use borrow.Author.Tests.{eq-eqb, ne-eqb}
 use Rattle.laws.specs.Table.{all-at}
-use Rattle.sequence.specs.Ranges.{tops, topOf}
+use Rattle.sequence_ranges.specs.Ranges.{tops, topOf}
 
 -- ---- the largest value, as the code finds it: a machine's shift keeps 64 bits
 topCode : ℕ → ℕ

@@ -5,7 +5,7 @@ use params_config::Config;
 ghost use mathlib.Core.Path.{_≡_};
 ghost use Prim.Native.Nat.{_≤_, _<_};
 ghost use Rattle.bits.specs.Blocks.{valueOf};
-ghost use Rattle.sequence.specs.Ranges.{topOf};
+ghost use Rattle.sequence_ranges.specs.Ranges.{topOf};
 ghost use Rattle.params_config.specs.Ranges.{cost};
 ghost use Rattle.params_room.specs.RoomLaws.{Given};
 ghost use Rattle.params_map.specs.Map.{legalMap, noMap, mapOf};
@@ -48,7 +48,7 @@ fn range_bits(q: usize, n: usize) -> usize
     requires { ⌜ (q < 21) × (n ≤ 288) ⌝ }
     ensures { λ r. ⌜ r ≡ cost q n ⌝ }
 {
-    sequence::total(sequence::range_of(q), n)
+    sequence_ranges::total(sequence_ranges::range_of(q), n)
 }
 
 // The map of a legal block: k is what its low configuration says.

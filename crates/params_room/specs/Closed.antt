@@ -8,8 +8,8 @@ use lib.Arith.{digits-div, digits-mod}
 use lib.Dec.{T, eqb, leb, eqb→eq, leb→le}
 use borrow.Author.Tests.{le-leb, lt-leb}
 use Rattle.laws.specs.Table.{all-at, both, both-left, both-right, then, in-then}
-use Rattle.sequence.specs.Ranges.{rangeOf, ranges}
-use Rattle.sequence.specs.Sequence.{totalOf}
+use Rattle.sequence_ranges.specs.Ranges.{rangeOf, ranges}
+use Rattle.sequence_ranges.specs.Ranges.{totalOf}
 use Rattle.params_config.specs.Ranges.{cost}
 use Rattle.params_room.specs.Room.{widest}
 

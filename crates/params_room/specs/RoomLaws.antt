@@ -6,8 +6,8 @@ use Prim.Native.Nat.{ℕ, zero, suc, _+_, _-_, _*_, _/_, _≤_, _<_}
 use native.Mathlib.Omega.{arith}
 use borrow.Author.Tests.{leb-true, leb-false}
 use lib.Dec.{leb}
-use Rattle.sequence.specs.Ranges.{rangeOf, ranges}
-use Rattle.sequence.specs.Sequence.{totalOf}
+use Rattle.sequence_ranges.specs.Ranges.{rangeOf, ranges}
+use Rattle.sequence_ranges.specs.Ranges.{totalOf}
 use Rattle.footprint.specs.declared.Footprint.{Footprint}
 use Rattle.params_config.specs.Ranges.{cost}
 use Rattle.params_config.specs.Config.{configOf}

@@ -6,8 +6,8 @@ use Prim.Native.Nat.{ℕ, _+_, _*_, _/_}
 use Rattle.bits.specs.Bits.{bitsAt, bytes}
 use Rattle.footprint.specs.Footprints.{footprint}
 use Rattle.footprint.specs.declared.Footprint.{Footprint}
-use Rattle.sequence.specs.Ranges.{ranges, rangeOf}
-use Rattle.sequence.specs.Sequence.{totalOf}
+use Rattle.sequence_ranges.specs.Ranges.{ranges, rangeOf}
+use Rattle.sequence_ranges.specs.Ranges.{totalOf}
 use Rattle.params_config.specs.Ranges.{cost}
 use Rattle.params_low.specs.Low.{isVoid, confLen, lowOf, extentOf}
 use Rattle.params_modes.specs.Modes.{classIn, valuesTo}

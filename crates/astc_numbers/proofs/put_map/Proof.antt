@@ -1,5 +1,5 @@
 -- `astc_numbers::put_map`: each way out is a law of NumberLaws, and the map's numbers are small. Assumes nothing.
-use Rattle.block_map.specs.MapLaws.{map-small}
+use Rattle.block_map.specs.AnswerLaws.{map-small}
 use Rattle.astc_numbers.specs.NumberLaws.{refused, no-room, written}
 use borrow.Author.Needs.{needs}
 use Rattle.astc_numbers.proofs.put_map.Statement.{statement}

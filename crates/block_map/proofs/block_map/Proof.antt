@@ -1,4 +1,4 @@
--- Each way out is a law of Entry.
+-- `block_map::block_map`: each way out is a law of AnswerLaws. Assumes nothing.
 use Rattle.block_map.specs.AnswerLaws.{map-not-sixteen, map-not-listed, map-block}
 use mathlib.Core.Path.{sym, _∙_}
 use borrow.Author.Needs.{needs}
@@ -14,27 +14,20 @@ load-requires c κs = search needs
 decode-block-map-requires : tie.Need-decode-block-map-requires
 decode-block-map-requires c κs = search needs
 
-report-requires : tie.Need-report-requires
-report-requires c κs = search needs
-
 returns : tie.Need-returns
-returns c =
-    c .report .ensures
-    ∙ map-block _ _ _ _ (c .before .before .before .before .before .if1 .taken) (sym (c .before .before .before .before .is-listed .ensures) ∙ c .before .before .before .if2 .taken) (c .before .before .load .ensures) (c .before .decode-block-map .ensures)
+returns c = map-block _ _ _ _ (c .before .before .before .before .if1 .taken) (sym (c .before .before .before .is-listed .ensures) ∙ c .before .before .if2 .taken) (c .before .load .ensures) (c .decode-block-map .ensures)
 
-no-fields-requires : tie.Need-no-fields-requires
-no-fields-requires c κs = search needs
+no-map-requires : tie.Need-no-map-requires
+no-map-requires c κs = search needs
 
 returns-2 : tie.Need-returns-2
-returns-2 c =
-    c .no-fields .ensures
-    ∙ map-not-listed _ _ (c .before .before .before .if1 .taken) (sym (c .before .before .is-listed .ensures) ∙ c .before .if2 .left)
+returns-2 c = map-not-listed _ _ _ (c .before .before .before .if1 .taken) (sym (c .before .before .is-listed .ensures) ∙ c .before .if2 .left) (c .no-map .ensures)
 
-no-fields-requires-2 : tie.Need-no-fields-requires-2
-no-fields-requires-2 c κs = search needs
+no-map-requires-2 : tie.Need-no-map-requires-2
+no-map-requires-2 c κs = search needs
 
 returns-3 : tie.Need-returns-3
-returns-3 c = c .no-fields2 .ensures ∙ map-not-sixteen _ _ (c .before .if1 .left)
+returns-3 c = map-not-sixteen _ _ _ (c .before .if1 .left) (c .no-map2 .ensures)
 
 pub block-map-spec : {M : Type 1} → statement M
 block-map-spec =
@@ -43,9 +36,8 @@ block-map-spec =
     is-listed-requires
     load-requires
     decode-block-map-requires
-    report-requires
     returns
-    no-fields-requires
+    no-map-requires
     returns-2
-    no-fields-requires-2
+    no-map-requires-2
     returns-3)

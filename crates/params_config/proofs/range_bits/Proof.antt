@@ -1,8 +1,8 @@
 -- `params_config::range_bits` meets its contract: every range of the list is legal. Assumes nothing.
 use Rattle.params_config.specs.Ranges.{cost}
-use Rattle.sequence.specs.declared.Range.{Range}
-use Rattle.sequence.specs.Sequence.{totalOf}
-use Rattle.sequence.specs.SequenceLaws.{legal}
+use Rattle.sequence_ranges.specs.declared.Range.{Range}
+use Rattle.sequence_ranges.specs.Ranges.{totalOf}
+use Rattle.sequence_ranges.specs.RangeLaws.{legal}
 use mathlib.Core.Path.{_∙_, ap}
 use borrow.Author.Needs.{needs}
 use Rattle.params_config.proofs.range_bits.Statement.{statement}
