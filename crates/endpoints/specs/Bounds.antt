@@ -9,18 +9,19 @@ use native.Mathlib.Omega.{arith}
 use lib.Dec.{eqb, leb, ltb, lit<}
 use lib.ListN.{getD}
 use borrow.Author.Tests.{eqb-false}
-use Rattle.endpoints_colours.specs.Colours.{Colour, ldr, nothing}
+use Rattle.endpoints_colours.specs.Colours.{ldr, nothing}
 use Rattle.endpoints_colours.specs.Bounds.{limit, Within}
-use Rattle.endpoints_modes.specs.Ldr.{offsetOf, clampedPair, luminance, luminanceOffset, luminanceAlphaOffset, scaled, direct, offset}
-use Rattle.endpoints_hdr.specs.Hdr.{rgb, alphas, opaque, hdr, less, grey, luminanceLarge, luminanceSmall, swapped, sevenLess, hdr7}
-use Rattle.endpoints_hdr.specs.Hdr11.{elevenMajor, under, elevenFirst, elevenSecond, hdr11, plainAlphas, offsetAlphas, hdrAlphas}
+use Rattle.endpoints_rules.specs.Ldr.{offsetOf, clampedPair, luminance, luminanceOffset, luminanceAlphaOffset, scaled, direct, offset}
+use Rattle.endpoints_rules.specs.Hdr.{rgb, alphas, opaque, hdr, less, grey, luminanceLarge, luminanceSmall, swapped, sevenLess, hdr7}
+use Rattle.endpoints_rules.specs.Hdr11.{elevenMajor, under, elevenFirst, elevenSecond, hdr11, plainAlphas, offsetAlphas, hdrAlphas}
 use Rattle.endpoints_hdr.specs.Hdr11Laws.{alphas-0, alphas-1, alphas-2}
-use Rattle.endpoints_modes.specs.Modes.{byMode, endpointsOf}
+use Rattle.endpoints_rules.specs.Modes.{byMode, endpointsOf}
 use Rattle.endpoints.specs.Endpoints.{valuesAt, countTo, partitionEndpoints, endpointsList}
 use Rattle.endpoints_colours.specs.declared.Mark.the-variants.{Hdr}
 use Rattle.endpoints_colours.specs.declared.Endpoints.{Endpoints}
-use Rattle.endpoints_hdr.specs.declared.Rgb.{Rgb}
-use Rattle.endpoints_hdr.specs.declared.Seven.{Seven}
+use Rattle.endpoints_rules.specs.declared.Rgb.{Rgb}
+use Rattle.endpoints_rules.specs.declared.Seven.{Seven}
+use Rattle.endpoints_colours.specs.declared.Rgba.{Rgba}
 use Rattle.endpoints_colours.specs.declared.Values.{Values}
 use Rattle.endpoints_colours.specs.declared.Alphas.{Alphas}
 
@@ -39,16 +40,16 @@ within-cond : (t : Bool) {a b : Endpoints} → Within a → Within b → Within 
 within-cond true x y = x
 within-cond false x y = y
 
-record Under (n : ℕ) (c : Colour) : Type 0 where
+record Under (n : ℕ) (c : Rgba) : Type 0 where
   r : c .r < n
   g : c .g < n
   b : c .b < n
   a : c .a < n
 
-within-ldr : {c d : Colour} → Under 256 c → Under 256 d → Within (ldr c d)
+within-ldr : {c d : Rgba} → Under 256 c → Under 256 d → Within (ldr c d)
 within-ldr p q = record { r0 = p .r; g0 = p .g; b0 = p .b; a0 = p .a; r1 = q .r; g1 = q .g; b1 = q .b; a1 = q .a }
 
-within-clamped : (c d : Colour) → Within (clampedPair c d)
+within-clamped : (c d : Rgba) → Within (clampedPair c d)
 within-clamped c d = record { r0 = omega arith; g0 = omega arith; b0 = omega arith; a0 = omega arith; r1 = omega arith; g1 = omega arith; b1 = omega arith; a1 = omega arith }
 
 record UnderHdr (c : Rgb) : Type 0 where

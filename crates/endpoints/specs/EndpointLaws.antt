@@ -8,7 +8,7 @@ use native.Mathlib.Numerals.{add-one}
 use native.Mathlib.Omega.{arith}
 use native.Mathlib.Decide.{decLt}
 use lib.ListN.{getD, set}
-use Rattle.endpoints_modes.specs.Modes.{endpointsOf}
+use Rattle.endpoints_rules.specs.Modes.{endpointsOf}
 use Rattle.endpoints.specs.Endpoints.{valuesAt, countOf, countTo, partitionEndpoints, endpointsList}
 use Rattle.endpoints_colours.specs.declared.Endpoints.{Endpoints}
 

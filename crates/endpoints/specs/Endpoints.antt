@@ -6,7 +6,7 @@ use Prim.Native.Nat.{ℕ, zero, suc, _+_, _*_, _/_}
 use lib.Dec.{ltb}
 use lib.ListN.{getD}
 use Rattle.endpoints_colours.specs.Colours.{nothing}
-use Rattle.endpoints_modes.specs.Modes.{endpointsOf}
+use Rattle.endpoints_rules.specs.Modes.{endpointsOf}
 use Rattle.endpoints_colours.specs.declared.Endpoints.{Endpoints}
 use Rattle.endpoints_colours.specs.declared.Values.{Values}
 

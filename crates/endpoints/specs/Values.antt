@@ -4,10 +4,10 @@ use mathlib.Core.Path.{_≡_, refl}
 use mathlib.Core.List.{List, [], _∷_}
 use Prim.Native.Nat.{ℕ}
 use Rattle.endpoints_colours.specs.Colours.{rgba, ldr, nothing}
-use Rattle.endpoints_modes.specs.Ldr.{baseOf, offsetOf, luminance, luminanceOffset, luminanceAlphaOffset, scaled, direct, offset}
-use Rattle.endpoints_hdr.specs.Hdr.{rgb, alphas, hdr, opaque, luminanceLarge, luminanceSmall, given, swapped, sevenRows, sevenShifts, sevenValue, sevenMajor, sevenMode, sevenPart, sevenOf, sevenLess, hdr7}
-use Rattle.endpoints_hdr.specs.Hdr11.{crateOffset, elevenRows, offsetBits, elevenMode, elevenMajor, elevenPart, under, elevenFirst, elevenSecond, hdr11, offsetAlphas, hdrAlphas}
-use Rattle.endpoints_modes.specs.Modes.{byMode, endpointsOf}
+use Rattle.endpoints_rules.specs.Ldr.{baseOf, offsetOf, luminance, luminanceOffset, luminanceAlphaOffset, scaled, direct, offset}
+use Rattle.endpoints_rules.specs.Hdr.{rgb, alphas, hdr, opaque, luminanceLarge, luminanceSmall, given, swapped, sevenRows, sevenShifts, sevenValue, sevenMajor, sevenMode, sevenPart, sevenOf, sevenLess, hdr7}
+use Rattle.endpoints_rules.specs.Hdr11.{crateOffset, elevenRows, offsetBits, elevenMode, elevenMajor, elevenPart, under, elevenFirst, elevenSecond, hdr11, offsetAlphas, hdrAlphas}
+use Rattle.endpoints_rules.specs.Modes.{byMode, endpointsOf}
 use Rattle.endpoints.specs.Endpoints.{valuesAt, countTo, partitionEndpoints, endpointsList}
 use Rattle.endpoints_colours.specs.declared.Mark.the-variants.{Hdr}
 use Rattle.endpoints_colours.specs.declared.Endpoints.{Endpoints}

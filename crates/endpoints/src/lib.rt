@@ -3,6 +3,8 @@ ghost use mathlib.Core.Path.{_≡_};
 ghost use Prim.Native.Nat.{ℕ, _≤_, _<_};
 ghost use lib.ListN.{getD};
 ghost use Rattle.endpoints_colours.specs.Colours.{nothing};
+ghost use Rattle.endpoints_colours.specs.Marks.{isHdr, marksOf};
+ghost use Rattle.endpoints_rules.specs.Modes.{endpointsOf};
 ghost use Rattle.endpoints.specs.Endpoints.{valuesAt, countOf, countTo, endpointsList};
 use endpoints_colours::Endpoints;
 use endpoints_colours::Mark;
@@ -47,6 +49,34 @@ fn values_of(mode: u8) -> usize
     2 * (mode as usize / 4 + 1)
 }
 
+// Whether a mode makes HDR colours.
+fn makes_hdr(mode: u8) -> bool
+    requires { ⌜ mode < 16 ⌝ }
+    ensures { λ r. ⌜ r ≡ isHdr (marksOf mode .color) ⌝ }
+{
+    match mode {
+        2 => true,
+        3 => true,
+        7 => true,
+        11 => true,
+        14 => true,
+        15 => true,
+        _ => false,
+    }
+}
+
+// The endpoints of a mode from its values.
+fn decode_mode(mode: u8, v: Values) -> Endpoints
+    requires { ⌜ mode < 16 ⌝ }
+    ensures { λ r. ⌜ r ≡ endpointsOf mode v ⌝ }
+{
+    if makes_hdr(mode) {
+        endpoints_hdr_modes::decode_hdr(mode, v)
+    } else {
+        endpoints_ldr::decode_ldr(mode, v)
+    }
+}
+
 // The endpoints of the first partitions, whose values stand one after the other.
 pub fn decode_endpoints(parts: usize, modes: [u8; 4], ev: &[u8; 32]) -> [Endpoints; 4]
     requires { ⌜ (1 ≤ parts) × (parts ≤ 4) ⌝ ∗ ⌜ ((i : ℕ) → i < parts → getD modes i 0 < 16) ⌝ ∗ ⌜ countTo modes parts ≤ 18 ⌝ }
@@ -58,7 +88,7 @@ pub fn decode_endpoints(parts: usize, modes: [u8; 4], ev: &[u8; 32]) -> [Endpoin
     let mut i = 0;
     while i < parts {
         let m = modes[i];
-        out[i] = endpoints_modes::decode_mode(m, values_at(ev, k));
+        out[i] = decode_mode(m, values_at(ev, k));
         k += values_of(m);
         i += 1;
     }

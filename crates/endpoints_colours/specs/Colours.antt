@@ -8,20 +8,15 @@ use lib.ListN.{getD}
 use Rattle.endpoints_colours.specs.declared.Mark.{Mark}
 use Rattle.endpoints_colours.specs.declared.Mark.the-variants.{Ldr}
 use Rattle.endpoints_colours.specs.declared.Endpoints.{Endpoints}
+use Rattle.endpoints_colours.specs.declared.Rgba.{Rgba}
 
-pub record Colour : Type 0 where
-  pub r : ℕ
-  pub g : ℕ
-  pub b : ℕ
-  pub a : ℕ
-
-abbrev pub rgba : ℕ → ℕ → ℕ → ℕ → Colour
+abbrev pub rgba : ℕ → ℕ → ℕ → ℕ → Rgba
 rgba r g b a = record { r = r; g = g; b = b; a = a }
 
-abbrev pub each : (ℕ → ℕ) → Colour → Colour
+abbrev pub each : (ℕ → ℕ) → Rgba → Rgba
 each f c = rgba (f (c .r)) (f (c .g)) (f (c .b)) (f (c .a))
 
-abbrev pub endpoints : Colour → Colour → Mark → Mark → Endpoints
+abbrev pub endpoints : Rgba → Rgba → Mark → Mark → Endpoints
 endpoints c d color alpha = record {
   r0 = c .r;
   g0 = c .g;
@@ -35,7 +30,7 @@ endpoints c d color alpha = record {
   alpha = alpha;
 }
 
-abbrev pub ldr : Colour → Colour → Endpoints
+abbrev pub ldr : Rgba → Rgba → Endpoints
 ldr c d = endpoints c d Ldr Ldr
 
 -- where there is no partition

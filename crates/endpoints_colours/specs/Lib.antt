@@ -1,2 +1,4 @@
 pub mod Colours
 pub mod Bounds
+pub mod Marks
+pub mod MarkLaws

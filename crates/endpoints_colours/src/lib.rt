@@ -1,4 +1,4 @@
-// The two endpoints of a partition, and the values and alphas that they are made of: no code.
+// The two endpoints of a partition, and the colours, values and alphas that they are made of: no code.
 
 pub enum Mark {
     Ldr,
@@ -17,6 +17,14 @@ pub struct Endpoints {
     pub a1: u16,
     pub color: Mark,
     pub alpha: Mark,
+}
+
+// One endpoint: a colour with its alpha.
+pub struct Rgba {
+    pub r: u16,
+    pub g: u16,
+    pub b: u16,
+    pub a: u16,
 }
 
 // The values v0 to v7 of which a mode makes its endpoints. A mode takes the first 2, 4, 6 or 8.

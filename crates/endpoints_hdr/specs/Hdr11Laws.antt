@@ -12,10 +12,10 @@ use lib.Dec.{ltb, lit≤}
 use lib.ListN.{getD}
 use lib.Pow.{pow-pos, pow-mono, mod-pow-add}
 use borrow.Author.Tests.{lt-ltb, le-ltb}
-use Rattle.endpoints_hdr.specs.Hdr.{given, less, rgb, alphas}
+use Rattle.endpoints_rules.specs.Hdr.{given, less, rgb, alphas}
 use Rattle.endpoints_colours.specs.declared.Mark.the-variants.{Hdr}
 use Rattle.endpoints_hdr.specs.HdrLaws.{low-6, low-7}
-use Rattle.endpoints_hdr.specs.Hdr11.{crateOffset, elevenRows, offsetBits, elevenPart, elevenA, elevenB0, elevenB1, elevenC, elevenD0, elevenD1, up, under, elevenFirst, elevenSecond, offsetAlphas}
+use Rattle.endpoints_rules.specs.Hdr11.{crateOffset, elevenRows, offsetBits, elevenPart, elevenA, elevenB0, elevenB1, elevenC, elevenD0, elevenD1, up, under, elevenFirst, elevenSecond, offsetAlphas}
 use Rattle.endpoints_colours.specs.declared.Values.{Values}
 use Rattle.endpoints_hdr.specs.declared.Eleven.{Eleven}
 

@@ -4,8 +4,8 @@ use mathlib.Core.Path.{_≡_, _∙_}
 use Prim.Native.Nat.{ℕ, _+_, _*_, _/_, _%_, _<_}
 use native.Mathlib.Omega.{arith}
 use lib.Pow.{mod-pow-add}
-use Rattle.endpoints_hdr.specs.Hdr.{given, sevenRows, sevenShifts, sevenPart, sevenOf}
-use Rattle.endpoints_hdr.specs.declared.Seven.{Seven}
+use Rattle.endpoints_rules.specs.Hdr.{given, sevenRows, sevenShifts, sevenPart, sevenOf}
+use Rattle.endpoints_rules.specs.declared.Seven.{Seven}
 
 pub record Below (n : ℕ) (c : Seven) : Type 0 where
   pub r : c .r < n

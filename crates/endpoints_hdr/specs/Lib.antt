@@ -1,4 +1,2 @@
-pub mod Hdr
 pub mod HdrLaws
-pub mod Hdr11
 pub mod Hdr11Laws

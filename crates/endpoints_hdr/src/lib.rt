@@ -2,26 +2,12 @@
 ghost use mathlib.Core.Path.{_≡_};
 ghost use Prim.Native.Nat.{_-_, _*_, _/_, _+_, _^_, _≤_, _<_};
 ghost use lib.ListN.{getD};
-ghost use Rattle.endpoints_hdr.specs.Hdr.{sevenOf};
+ghost use Rattle.endpoints_rules.specs.Hdr.{sevenOf};
 ghost use Rattle.endpoints_hdr.specs.HdrLaws.{Below, sevenBy};
-ghost use Rattle.endpoints_hdr.specs.Hdr11.{up};
+ghost use Rattle.endpoints_rules.specs.Hdr11.{up};
 ghost use Rattle.endpoints_hdr.specs.Hdr11Laws.{bases, differences, commons, kept, offsets, elevenOf, Small};
 use endpoints_colours::Values;
-
-// A colour without its alpha.
-pub struct Rgb {
-    pub r: u16,
-    pub g: u16,
-    pub b: u16,
-}
-
-// The numbers of mode 7: red, green and blue or their differences to red, and the scale.
-pub struct Seven {
-    pub r: u16,
-    pub g: u16,
-    pub b: u16,
-    pub s: u16,
-}
+use endpoints_rules::Seven;
 
 // The numbers of mode 11: the base, two differences, what both endpoints differ by, and two offsets.
 pub struct Eleven {

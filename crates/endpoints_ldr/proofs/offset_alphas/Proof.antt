@@ -1,0 +1,31 @@
+-- The cases of the definition.
+use borrow.Author.Tests.{eq-eqb, ne-eqb}
+use borrow.Author.Needs.{needs}
+use Rattle.endpoints_ldr.proofs.offset_alphas.Statement.{statement}
+use Rattle.endpoints_ldr.proofs.offset_alphas.Tie as tie
+
+add-t6 : tie.Need-add-t6
+add-t6 c = search needs
+
+add-t7 : tie.Need-add-t7
+add-t7 c = search needs
+
+returns : tie.Need-returns
+returns c = rw (eq-eqb _ _ (c .if1 .taken))
+
+bit-transfer-signed-requires : tie.Need-bit-transfer-signed-requires
+bit-transfer-signed-requires c κs = search needs
+
+add-t9 : tie.Need-add-t9
+add-t9 c = search needs
+
+add-t10 : tie.Need-add-t10
+add-t10 c = search needs
+
+returns-2 : tie.Need-returns-2
+returns-2 c = rw (ne-eqb _ _ (c .before .before .before .if1 .left), c .before .before .bit-transfer-signed .ensures .0)
+
+pub offset-alphas-spec : {M : Type 1} → statement M
+offset-alphas-spec =
+    tie.close
+    (tie.spec add-t6 add-t7 returns bit-transfer-signed-requires add-t9 add-t10 returns-2)

@@ -1,4 +1,0 @@
-pub mod Ldr
-pub mod LdrLaws
-pub mod Modes
-pub mod ModeLaws
