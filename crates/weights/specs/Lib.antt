@@ -1,12 +1,6 @@
 pub mod Weights
-pub mod Infill
 pub mod Given
-pub mod Fast
-pub mod Values
-pub mod Bounds
-pub mod WeightLaws
-pub mod InfillLaws
-pub mod SpreadLaws
-pub mod FillLaws
-pub mod PlaneLaws
+pub mod Parted
 pub mod DecodeLaws
+pub mod Bounds
+pub mod Values

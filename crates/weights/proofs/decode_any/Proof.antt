@@ -2,14 +2,15 @@
 use mathlib.Core.Path.{_≡_, _∙_}
 use borrow.Author.Needs.{needs}
 use lib.ListN.{replicate}
-use Rattle.weights.specs.Fast.{each}
-use Rattle.weights.specs.Weights.{weightOf}
-use Rattle.weights.specs.Given.{countOf}
-use Rattle.weights.specs.DecodeLaws.{grid-zero, grid-le, infill-is}
+use Rattle.weights_unquantise.specs.Unquantise.{weightOf}
+use Rattle.weights_unquantise.specs.Forms.{each}
+use Rattle.weights_grid.specs.Grids.{countOf}
+use Rattle.weights.specs.DecodeLaws.{grid-le, grid-zero, infill-is}
+use Rattle.footprint.specs.Footprints.{mostWeights}
 use Rattle.weights.proofs.decode_any.Statement.{statement}
 use Rattle.weights.proofs.decode_any.Tie as tie
 
-grid : (c : tie.After-unquantize) → c .unquantize .last .0 ≡ each (weightOf (c .before .before .args .q)) (c .before .before .args .seq .now) (countOf (c .before .before .args .g)) (replicate 288 0)
+grid : (c : tie.After-unquantize) → c .unquantize .last .0 ≡ each (weightOf (c .before .before .args .q)) (c .before .before .args .seq .now) (countOf (c .before .before .args .g)) (replicate mostWeights 0)
 grid c = rw (← c .before .before .pre .1) (c .unquantize .ensures)
 
 unquantize-requires : tie.Need-unquantize-requires

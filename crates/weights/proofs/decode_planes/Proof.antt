@@ -2,10 +2,11 @@
 use mathlib.Core.Path.{_≡_, _∙_}
 use borrow.Author.Needs.{needs}
 use lib.ListN.{replicate}
-use Rattle.weights.specs.Fast.{each}
-use Rattle.weights.specs.Weights.{weightOf}
-use Rattle.weights.specs.Given.{countOf}
+use Rattle.weights_unquantise.specs.Unquantise.{weightOf}
+use Rattle.weights_unquantise.specs.Forms.{each}
+use Rattle.weights_grid.specs.Grids.{countOf}
 use Rattle.weights.specs.DecodeLaws.{planes-are}
+use Rattle.footprint.specs.Footprints.{mostWeights}
 use Rattle.weights.proofs.decode_planes.Statement.{statement}
 use Rattle.weights.proofs.decode_planes.Tie as tie
 
@@ -19,7 +20,7 @@ returns : tie.Need-returns
 returns c =
     let s = c .before .before .before .before .before in
     let a = s .args in
-    let e : c .before .before .before .unquantize .last .0 ≡ each (weightOf (a .q)) (a .seq .now) (countOf (a .g)) (replicate 288 0) = rw (← s .pre .1) (c .before .before .before .unquantize .ensures) in
+    let e : c .before .before .before .unquantize .last .0 ≡ each (weightOf (a .q)) (a .seq .now) (countOf (a .g)) (replicate mostWeights 0) = rw (← s .pre .1) (c .before .before .before .unquantize .ensures) in
     rw (s .pre .1) at (c .part-planes .ensures) ∙ planes-are (a .g) (a .q) (a .seq .now) _ (s .pre .0 .fits) (s .pre .0 .encoded) e (s .pre .2) (s .pre .3) (s .pre .4)
 
 pub decode-planes-spec : {M : Type 1} → statement M

@@ -4,7 +4,7 @@ use Prim.Native.Nat.{_*_, _≤_}
 use native.Mathlib.Omega.{arith}
 use borrow.Author.Needs.{needs}
 use native.Mathlib.Nat.{mul-le-mul}
-use Rattle.weights.specs.InfillLaws.{sides-in}
+use Rattle.weights_grid.specs.GridLaws.{sides-in}
 use Rattle.weights.specs.DecodeLaws.{wide-true, whole-true}
 use Rattle.weights.proofs.decode_weights.Statement.{statement}
 use Rattle.weights.proofs.decode_weights.Tie as tie

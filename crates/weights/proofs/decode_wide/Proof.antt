@@ -2,10 +2,11 @@
 use mathlib.Core.Path.{_≡_, _∙_}
 use borrow.Author.Needs.{needs}
 use lib.ListN.{replicate}
-use Rattle.weights.specs.Fast.{each}
-use Rattle.weights.specs.Weights.{weightOf}
-use Rattle.weights.specs.Given.{countOf}
-use Rattle.weights.specs.DecodeLaws.{whole-is, infill-is}
+use Rattle.weights_unquantise.specs.Unquantise.{weightOf}
+use Rattle.weights_unquantise.specs.Forms.{each}
+use Rattle.weights_grid.specs.Grids.{countOf}
+use Rattle.weights.specs.DecodeLaws.{infill-is, whole-is}
+use Rattle.footprint.specs.Footprints.{mostWeights}
 use Rattle.weights.proofs.decode_wide.Statement.{statement}
 use Rattle.weights.proofs.decode_wide.Tie as tie
 
@@ -16,7 +17,7 @@ returns : tie.Need-returns
 returns c =
     let s = c .before .before .before .before in
     let a = s .args in
-    let e : c .unquantize .last .0 ≡ each (weightOf (a .q)) (a .seq .now) (countOf (a .g)) (replicate 288 0) = rw (← s .pre .1, ← s .pre .0 .clear) (c .unquantize .ensures) in
+    let e : c .unquantize .last .0 ≡ each (weightOf (a .q)) (a .seq .now) (countOf (a .g)) (replicate mostWeights 0) = rw (← s .pre .1, ← s .pre .0 .clear) (c .unquantize .ensures) in
     whole-is (a .g) (a .q) (a .seq .now) _ (s .pre .0 .fits) (s .pre .0 .encoded) e (s .pre .2) (s .pre .3) (c .before .before .if1 .taken)
 
 unquantize-requires-2 : tie.Need-unquantize-requires-2
@@ -29,7 +30,7 @@ returns-2 : tie.Need-returns-2
 returns-2 c =
     let s = c .before .before .before .before .before .before .before in
     let a = s .args in
-    let e : c .before .before .before .unquantize2 .last .0 ≡ each (weightOf (a .q)) (a .seq .now) (countOf (a .g)) (replicate 288 0) = rw (← s .pre .1) (c .before .before .before .unquantize2 .ensures) in
+    let e : c .before .before .before .unquantize2 .last .0 ≡ each (weightOf (a .q)) (a .seq .now) (countOf (a .g)) (replicate mostWeights 0) = rw (← s .pre .1) (c .before .before .before .unquantize2 .ensures) in
     c .fill-down .ensures ∙ infill-is (a .g) (a .q) (a .seq .now) _ (s .pre .0 .fits) (s .pre .0 .encoded) e
 
 pub decode-wide-spec : {M : Type 1} → statement M

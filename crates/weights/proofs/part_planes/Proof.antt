@@ -3,25 +3,24 @@ use mathlib.Core.Path.{_≡_, _∙_}
 use Prim.Native.Nat.{_-_, _≤_, zero-le}
 use native.Mathlib.Omega.{arith}
 use Rattle.laws.specs.Lists.{listOf}
-use Rattle.weights.specs.Fast.{eights, partedTo}
+use Rattle.weights.specs.Parted.{partedTo}
 use Rattle.weights.specs.DecodeLaws.{parted-none, parted-turn}
+use Rattle.footprint.specs.Footprints.{mostWeights}
+use Rattle.lanes.specs.Lanes.{eights}
 use Rattle.weights.proofs.part_planes.Statement.{statement}
 use Rattle.weights.proofs.part_planes.Tie as tie
 
 abbrev Inv-loop : tie.InvT-loop
-Inv-loop out₀ n wv m i₀ out i = (i ≤ eights n) × (out ≡ listOf (partedTo wv i) 0 288)
+Inv-loop out₀ n wv m i₀ out i = (i ≤ eights n) × (out ≡ listOf (partedTo wv i) 0 mostWeights)
 
 abbrev μ-loop : tie.MeasureT-loop
 μ-loop out₀ n wv m i₀ out i = eights n - i
 
-add-m : tie.Need-add-m Inv-loop μ-loop
-add-m c = omega arith
-
-mul-m : tie.Need-mul-m Inv-loop μ-loop
-mul-m c = omega arith
+eights-requires : tie.Need-eights-requires Inv-loop μ-loop
+eights-requires c κs = omega arith
 
 loop-holds : tie.Need-loop-holds Inv-loop μ-loop
-loop-holds c = (zero-le, c .pre .1 ∙ parted-none (c .args .wv .now))
+loop-holds c = (zero-le, c .before .pre .1 ∙ parted-none (c .before .args .wv .now))
 
 mul-out : tie.Need-mul-out Inv-loop μ-loop
 mul-out c = omega arith
@@ -54,11 +53,11 @@ loop-less : tie.Need-loop-less Inv-loop μ-loop
 loop-less c = omega arith
 
 loop-again : tie.Need-loop-again Inv-loop μ-loop
-loop-again c = (omega arith, parted-turn (c .before .before .before .before .args .wv .now) _ _ (omega arith) (c .before .before .before .loop .inv .1))
+loop-again c = (omega arith, parted-turn (c .before .before .before .before .before .args .wv .now) _ _ (omega arith) (c .before .before .before .loop .inv .1))
 
 returns : tie.Need-returns Inv-loop μ-loop
 returns c =
-    let e : c .before .loop .i ≡ eights (c .before .before .args .n) = omega arith in
+    let e : c .before .loop .i ≡ eights (c .before .before .before .args .n) = omega arith in
     rw e at (c .before .loop .inv .1)
 
 pub part-planes-spec : {M : Type 1} → statement M
@@ -67,8 +66,7 @@ part-planes-spec =
     (tie.spec
     Inv-loop
     μ-loop
-    add-m
-    mul-m
+    eights-requires
     loop-holds
     mul-out
     element-copy-out-out

@@ -1,0 +1,113 @@
+-- The texels of the rows before t are filled; past them stand zeros, which a row may put again.
+use mathlib.Core.Path.{_≡_, ap, _∙_}
+use Prim.Native.Nat.{ℕ, _*_, _-_, _/_, _%_, _≤_, zero-le}
+use native.Mathlib.Omega.{arith}
+use Rattle.laws.specs.Lists.{listOf}
+use Rattle.weights_grid.specs.Grids.{downOf}
+use Rattle.weights_grid.specs.GridLaws.{sides-in, down-at, down-in, row-start}
+use Rattle.weights_infill.specs.Fast.{rowAt, rowsOf}
+use Rattle.weights_infill.specs.FillLaws.{row-past, texelsTo, texels-none, texels-turn, texels-end}
+use Rattle.footprint.specs.Footprints.{mostWeights}
+use Rattle.lanes.specs.Lanes.{eights}
+use Rattle.weights_infill.proofs.fill_rows.Statement.{statement}
+use Rattle.weights_infill.proofs.fill_rows.Tie as tie
+
+abbrev Inv-loop : tie.InvT-loop
+Inv-loop out₀ g pairs part d height m o₀ t₀ out o t = (t ≤ g .footprint .height) × (o ≡ t * g .footprint .width) × (out ≡ listOf (texelsTo (g .footprint .width) o (rowsOf g pairs part)) 0 mostWeights)
+
+abbrev μ-loop : tie.MeasureT-loop
+μ-loop out₀ g pairs part d height m o₀ t₀ out o t = g .footprint .height - t
+
+at-place : (c : tie.After-place Inv-loop μ-loop) → c .place .result ≡ downOf (c .before .before .before .before .before .before .before .args .g) (c .before .before .before .loop .t)
+at-place c = down-at (c .before .before .before .before .before .before .before .args .g) (c .before .before .before .before .before .before .step-of .result) (c .place .result) (c .before .before .before .loop .t) (c .place .ensures .0) (c .before .before .before .before .before .before .step-of .ensures .0)
+
+in-grid : (c : tie.After-place Inv-loop μ-loop) → c .place .result / 16 ≤ 11
+in-grid c = rw (at-place c) (down-in (c .before .before .before .before .before .before .before .pre .0 .0) (c .before .before .before .loop .t) (omega arith))
+
+offset : (c : tie.After-place Inv-loop μ-loop) → c .before .before .before .loop .o ≤ 132
+offset c = row-start (c .before .before .before .before .before .before .before .pre .0 .0) (c .before .before .before .loop .t) (c .before .before .before .loop .o) (omega arith) (c .before .before .before .loop .inv .1)
+
+step-of-requires : tie.Need-step-of-requires Inv-loop μ-loop
+step-of-requires c κs = c .pre .0 .0 .sides .side-high
+
+cast-height : tie.Need-cast-height Inv-loop μ-loop
+cast-height c = omega (arith, c .before .before .pre .0 .0 .high, sides-in (c .before .before .pre .0 .0))
+
+eights-requires : tie.Need-eights-requires Inv-loop μ-loop
+eights-requires c κs = omega (arith, sides-in (c .before .before .pre .0 .0))
+
+loop-holds : tie.Need-loop-holds Inv-loop μ-loop
+loop-holds c =
+    let a = c .before .before .before .args in
+    (zero-le, omega arith, c .before .before .before .pre .0 .1 ∙ texels-none (a .g .footprint .width) (rowsOf (a .g) (a .pairs .now) (a .part .now)) mostWeights)
+
+cast-place : tie.Need-cast-place Inv-loop μ-loop
+cast-place c = omega (arith, sides-in (c .before .before .before .before .before .before .pre .0 .0))
+
+place-requires : tie.Need-place-requires Inv-loop μ-loop
+place-requires c κs = omega (arith, c .before .before .before .before .before .before .pre .0 .0 .high, sides-in (c .before .before .before .before .before .before .pre .0 .0), c .before .before .before .before .before .step-of .ensures .1)
+
+mul-long : tie.Need-mul-long Inv-loop μ-loop
+mul-long c = omega (arith, c .before .place .ensures .1)
+
+long-requires : tie.Need-long-requires Inv-loop μ-loop
+long-requires c κs = tt
+
+fill-row-requires : tie.Need-fill-row-requires Inv-loop μ-loop
+fill-row-requires c κs =
+    let fits = c .before .before .before .before .before .before .before .before .before .pre .0 .0 in
+    (omega (arith, offset (c .before .before), sides-in fits), omega (arith, sides-in fits), omega (arith, in-grid (c .before .before), c .long .ensures, fits .high, sides-in fits), omega arith, c .before .before .before .before .before .before .before .before .before .pre .1 .0)
+
+add-o : tie.Need-add-o Inv-loop μ-loop
+add-o c = omega (arith, offset (c .before .before .before .before), sides-in (c .before .before .before .before .before .before .before .before .before .before .before .pre .0 .0))
+
+add-t : tie.Need-add-t Inv-loop μ-loop
+add-t c = omega (arith, sides-in (c .before .before .before .before .before .before .before .before .before .before .before .pre .0 .0))
+
+loop-less : tie.Need-loop-less Inv-loop μ-loop
+loop-less c = omega arith
+
+loop-again : tie.Need-loop-again Inv-loop μ-loop
+loop-again c =
+    let a = c .before .before .before .before .before .before .before .before .before .before .before .args in
+    let l = c .before .before .before .before .before .before .before .loop in
+    let p = c .before .before .before .before .place .result in
+    let lanes = c .before .before .before .before .before .before .before .before .eights in
+    let fits = c .before .before .before .before .before .before .before .before .before .before .before .pre .0 .0 in (
+      omega arith,
+      omega (arith, l .inv .1),
+      texels-turn (a .g .footprint .width) (l .t) (lanes .result) (rowsOf (a .g) (a .pairs .now) (a .part .now)) (rowAt (a .pairs .now) (a .part .now) (p / 16 * 16) (p % 16))
+          (l .out) _ (l .o) (l .inv .1) (omega (arith, lanes .ensures))
+          (λ s h. ap (λ (n : ℕ). rowAt (a .pairs .now) (a .part .now) (n / 16 * 16) (n % 16) s) (at-place (c .before .before .before .before)))
+          (λ s h m. row-past (a .pairs .now) (a .part .now) (a .g .footprint .width) (p / 16) (p % 16) s (c .before .before .before .before .before .before .before .before .before .before .before .pre .1 .1) h (omega (arith, sides-in fits, lanes .ensures)))
+          (l .inv .2)
+          (rw (c .before .before .long .ensures) at (c .before .fill-row .ensures)),
+    )
+
+returns : tie.Need-returns Inv-loop μ-loop
+returns c =
+    let a = c .before .before .before .before .before .before .args in
+    let l = c .before .before .loop in
+    let e : l .t ≡ a .g .footprint .height = omega arith in
+    texels-end (a .g) (rowsOf (a .g) (a .pairs .now) (a .part .now)) (l .out) (l .o) (rw e at (l .inv .1)) (l .inv .2)
+
+pub fill-rows-spec : {M : Type 1} → statement M
+fill-rows-spec =
+    tie.close
+    (tie.spec
+    Inv-loop
+    μ-loop
+    step-of-requires
+    cast-height
+    eights-requires
+    loop-holds
+    cast-place
+    place-requires
+    mul-long
+    long-requires
+    fill-row-requires
+    add-o
+    add-t
+    loop-less
+    loop-again
+    returns)

@@ -1,0 +1,84 @@
+-- The places from o on hold what stands at the columns passed.
+use mathlib.Core.Path.{_≡_, ap}
+use Prim.Native.Nat.{ℕ, _+_, _-_, _≤_, _<_, zero-le}
+use native.Mathlib.Omega.{arith}
+use lib.ListN.{getD}
+use Rattle.laws.specs.Lists.{putAt, putAt-none, putAt-turn, putAt-end}
+use Rattle.weights_infill.proofs.spread_row.Statement.{statement}
+use Rattle.weights_infill.proofs.spread_row.Tie as tie
+
+abbrev Inv-loop : tie.InvT-loop
+Inv-loop out₀ o bw at next k s₀ out s = (s ≤ bw) × (out ≡ putAt (λ (i : ℕ). getD next (k + getD at i 0) 0) o s out₀)
+
+abbrev μ-loop : tie.MeasureT-loop
+μ-loop out₀ o bw at next k s₀ out s = bw - s
+
+inside : (c : tie.After-long Inv-loop μ-loop) → c .before .before .before .before .args .k + c .long .result < 72
+inside c = rw (c .long .ensures) (c .before .before .before .before .pre .2 (c .before .before .before .loop .s) (c .before .before .loop-test .taken))
+
+loop-holds : tie.Need-loop-holds Inv-loop μ-loop
+loop-holds c = (zero-le, putAt-none _ _ _)
+
+mul-long : tie.Need-mul-long Inv-loop μ-loop
+mul-long c = omega arith
+
+element-copy-out-long : tie.Need-element-copy-out-long Inv-loop μ-loop
+element-copy-out-long c = omega arith
+
+long-requires : tie.Need-long-requires Inv-loop μ-loop
+long-requires c κs = omega arith
+
+add-out : tie.Need-add-out Inv-loop μ-loop
+add-out c = omega (arith, inside c)
+
+mul-out : tie.Need-mul-out Inv-loop μ-loop
+mul-out c = omega (arith, inside c)
+
+element-copy-out-out : tie.Need-element-copy-out-out Inv-loop μ-loop
+element-copy-out-out c = omega (arith, inside c)
+
+add-out-2 : tie.Need-add-out-2 Inv-loop μ-loop
+add-out-2 c = omega arith
+
+mul-out-2 : tie.Need-mul-out-2 Inv-loop μ-loop
+mul-out-2 c = omega arith
+
+element-write-out : tie.Need-element-write-out Inv-loop μ-loop
+element-write-out c = omega arith
+
+add-s : tie.Need-add-s Inv-loop μ-loop
+add-s c = omega arith
+
+loop-less : tie.Need-loop-less Inv-loop μ-loop
+loop-less c = omega arith
+
+loop-again : tie.Need-loop-again Inv-loop μ-loop
+loop-again c = (
+  omega arith,
+  putAt-turn _ _ _ _ _ _ (c .before .before .before .before .loop .inv .1)
+      (ap (λ (n : ℕ). getD (c .before .before .before .before .before .args .next .now) (c .before .before .before .before .before .args .k + n) 0) (c .before .long .ensures)),
+)
+
+returns : tie.Need-returns Inv-loop μ-loop
+returns c = putAt-end _ _ _ _ _ _ (c .before .loop .inv .1) (omega arith) (omega arith)
+
+pub spread-row-spec : {M : Type 1} → statement M
+spread-row-spec =
+    tie.close
+    (tie.spec
+    Inv-loop
+    μ-loop
+    loop-holds
+    mul-long
+    element-copy-out-long
+    long-requires
+    add-out
+    mul-out
+    element-copy-out-out
+    add-out-2
+    mul-out-2
+    element-write-out
+    add-s
+    loop-less
+    loop-again
+    returns)

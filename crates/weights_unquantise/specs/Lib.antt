@@ -1,0 +1,4 @@
+pub mod Unquantise
+pub mod Forms
+pub mod UnquantiseLaws
+pub mod Values
