@@ -23,8 +23,10 @@ use Rattle.block_void.specs.Void.{voidWord}
 use Rattle.block_ordinary.specs.Ordinary.{ordinaryWord, lanesOf}
 use Rattle.block_map.specs.Answer.{mapAnswer}
 use Rattle.block_map.specs.AnswerLaws.{map-answer}
-use Rattle.block.specs.Block.{magenta, colourOf, wordOfParams, blockWord, wordAt, outcomeOf, lanesIn}
+use Rattle.block_ordinary.specs.Facts.{Lent}
+use Rattle.block.specs.Block.{theTables, magenta, colourOf, wordOfParams, blockWord, wordAt, outcomeOf, lanesIn}
 use Rattle.block.specs.declared.Outcome.{Outcome}
+use Rattle.block.specs.declared.Tables.{Tables}
 
 -- ---- what callers cite
 module _ (s : List ℕ) (foot : Footprint) where
@@ -78,3 +80,7 @@ module _ (s : List ℕ) (foot : Footprint) (v : ℕ) (ev : v ≡ bytes 16 s) whe
   unfolding outcomeOf colourOf lanesIn
   ends-refused a before lanes h n d =
       rw (← ev, ← (d .0), ne-eqb a 0 n, ne-eqb a 1 (λ z. void-alone v foot h (sym (d .0) ∙ z))) (refl, d .1)
+
+-- ---- the tables that are made are those that are lent
+pub lent : (t : Tables) → t ≡ theTables → Lent (t .reversal) (t .trits) (t .quints)
+lent t e = rw e (record { reversal = refl; trits = refl; quints = refl })

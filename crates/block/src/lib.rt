@@ -21,7 +21,7 @@ pub struct Tables {
     pub quints: [u16; 128],
 }
 
-pub fn tables() -> Tables
+pub fn make_tables() -> Tables
     ensures { λ r. ⌜ r ≡ theTables ⌝ }
 {
     Tables {
@@ -72,7 +72,7 @@ fn decode_words(s: &[u8], f: Footprint, out: &mut [u32]) -> usize
     requires { ⌜ (length (now s) ≡ 16) × ((listed f ≡ true) × (texelsOf f ≤ length (now out))) ⌝ }
     ensures { λ a. ⌜ (a ≡ outcomeOf (now (s .entry)) f .answer) × (now (out .exit) ≡ put (wordAt (now (s .entry)) f) 0 (texelsOf f) (now (out .entry))) ⌝ }
 {
-    let tables = tables();
+    let tables = make_tables();
     let mut lanes = [0u16; LANES];
     let r = decode_lanes(
         &tables.reversal,

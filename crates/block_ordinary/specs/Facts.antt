@@ -24,7 +24,7 @@ use Rattle.params.specs.Params.{legal, paramsOf}
 use Rattle.params.specs.Laws.{answer-is, legal-is, code-is, code-values}
 use Rattle.params.specs.declared.Params.{Params}
 use Rattle.endpoints.specs.Endpoints.{countTo}
-use Rattle.weights.specs.Given.{Fits}
+use Rattle.weights_grid.specs.Grids.{Fits}
 use Rattle.block_ordinary.specs.Ordinary.{gridOf, countOf}
 
 -- ---- the values of the first n partitions, as the parameters count them and as the endpoints do

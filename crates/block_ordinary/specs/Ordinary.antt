@@ -17,8 +17,8 @@ use Rattle.params.specs.declared.Params.{Params}
 use Rattle.endpoints_unquantise.specs.Unquantised.{endpointValues}
 use Rattle.endpoints.specs.Endpoints.{endpointsList}
 use Rattle.endpoints_colours.specs.declared.Endpoints.{Endpoints}
-use Rattle.weights.specs.Infill.{weightsOf}
-use Rattle.weights.specs.declared.Grid.{Grid}
+use Rattle.weights.specs.Weights.{weightsOf}
+use Rattle.weights_grid.specs.declared.Grid.{Grid}
 use Rattle.partition.specs.Partition.{partitionAt}
 use Rattle.texels.specs.Texels.{texelWord}
 

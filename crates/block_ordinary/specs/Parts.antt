@@ -33,7 +33,7 @@ use Rattle.endpoints_colours.specs.Colours.{nothing}
 use Rattle.endpoints_colours.specs.Bounds.{Within}
 use Rattle.weights.specs.Given.{Given}
 use Rattle.weights.specs.Bounds.{weights-le}
-use Rattle.weights.specs.Infill.{weightsOf}
+use Rattle.weights.specs.Weights.{weightsOf}
 use Rattle.partition.specs.Partition.{partitionAt}
 use Rattle.partition.specs.PartitionLaws.{partition-below}
 use Rattle.texels.specs.Given.{Given as PaintGiven}

@@ -22,7 +22,7 @@ use footprint::TEXELS;
 use footprint::WEIGHTS;
 use lanes::LANES;
 use params::Params;
-use weights::Grid;
+use weights_grid::Grid;
 
 // The endpoints of a legal block's partitions.
 fn ends_of(t: &[u16; 256], q: &[u16; 128], b: Block, p: Params) -> [Endpoints; 4]

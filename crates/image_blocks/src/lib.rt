@@ -77,7 +77,7 @@ pub fn paint_blocks(data: &[u8], m: Shape, first: usize, end: usize, out: &mut [
     requires { ⌜ Sized m (length (now «data»)) (length (now out)) × ((first ≤ end) × (end ≤ totalOf m)) ⌝ }
     ensures { λ r. ⌜ (r ≡ badIn (now («data» .entry)) m first (end - first)) × (now (out .exit) ≡ paintedBlocks (now («data» .entry)) m first end (now (out .entry))) ⌝ }
 {
-    let tables = block::tables();
+    let tables = block::make_tables();
     let mut lanes = [0u16; LANES];
     let across = image_shape::along(m.width, m.footprint.width);
     let mut at = Spot {

@@ -19,13 +19,13 @@ partition-of-requires c κs = search needs
 
 applicate-color-requires : tie.Need-applicate-color-requires
 applicate-color-requires c κs =
-    let s = c .before .before .before .before .before .before .before .before .before .before .before in
+    let s = c .before .before .before .before .before .before .before .before .before .before .before .before in
     let k = s .pre .1 in
     paint-given (s .args .p) (s .args .f) (k .facts) _ _ _ _ _ _ refl (k .sides .texels) (c .before .before .before .before .before .before .before .before .before .ends-of .ensures) (c .before .before .before .before .before .before .before .weights-of .ensures) (c .before .before .before .before .before .partition-of .ensures)
 
 returns : tie.Need-returns
 returns c =
-    let s = c .before .before .before .before .before .before .before .before .before .before .before .before in
+    let s = c .before .before .before .before .before .before .before .before .before .before .before .before .before in
     painted-is _ _ (s .args .f) _ _ _ _ _ _ (c .before .before .before .before .before .before .before .before .before .before .ends-of .ensures) (c .before .before .before .before .before .before .before .before .weights-of .ensures) (c .before .before .before .before .before .before .partition-of .ensures) refl (c .applicate-color .ensures)
 
 pub paint-ordinary-spec : {M : Type 1} → statement M

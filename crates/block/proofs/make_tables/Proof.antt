@@ -1,0 +1,19 @@
+-- `block::make_tables`: each table is the defined one. Assumes nothing.
+use borrow.Author.Needs.{needs}
+use Rattle.block.proofs.make_tables.Statement.{statement}
+use Rattle.block.proofs.make_tables.Tie as tie
+
+reversal-requires : tie.Need-reversal-requires
+reversal-requires c κs = search needs
+
+trits-requires : tie.Need-trits-requires
+trits-requires c κs = search needs
+
+quints-requires : tie.Need-quints-requires
+quints-requires c κs = search needs
+
+returns : tie.Need-returns
+returns c = rw (c .before .before .reversal .ensures, c .before .trits .ensures, c .quints .ensures)
+
+pub make-tables-spec : {M : Type 1} → statement M
+make-tables-spec = tie.close (tie.spec reversal-requires trits-requires quints-requires returns)
