@@ -89,6 +89,13 @@ bytes-length d t b e h =
     let l : length (drop (16 * b) d) ≡ length d - 16 * b = length-drop (16 * b) d in
     length-take-le 16 (drop (16 * b) d) (omega arith)
 
+-- the part of the data that is handed on as block b
+pub part-is : (d : List ℕ) (b : ℕ) → take (16 * b + 16 - 16 * b) (drop (16 * b) d) ≡ bytesOf d b
+part-is d b = let n : 16 * b + 16 - 16 * b ≡ 16 = omega arith in rw n
+
+pub part-length : (d : List ℕ) (m : Shape) (places b : ℕ) → Sized m (length d) places → b < totalOf m → length (take (16 * b + 16 - 16 * b) (drop (16 * b) d)) ≡ 16
+part-length d m places b s h = ap length (part-is d b) ∙ bytes-length d (totalOf m) b (s .bytes) h
+
 -- x is the part of the data that a block's decoding was handed, r what that gave
 module _ (d : List ℕ) (m : Shape) (places b : ℕ) (s : Sized m (length d) places) (h : b < totalOf m) (x : List ℕ) (ex : x ≡ bytesOf d b) (r : Outcome) (er : r ≡ outcomeOf x (m .footprint)) where
   sixteen : length x ≡ 16
@@ -130,7 +137,7 @@ module _ (d : List ℕ) (m : Shape) (places b : ℕ) (s : Sized m (length d) pla
 pub record Painting (d : List ℕ) (m : Shape) (first end : ℕ) (s : List ℕ) (across : ℕ) (out lanes : List ℕ) (at : Spot) (bad : ℕ) : Type 0 where
   pub rows : across ≡ acrossOf m
   pub narrow : across ≤ 4107
-  pub lanes : length lanes ≡ mostLanes
+  pub room : length lanes ≡ mostLanes
   pub place : At m at
   pub from : first ≤ at .block
   pub to : at .block ≤ end
@@ -148,7 +155,7 @@ pub painting-first : (d : List ℕ) (m : Shape) (first end a : ℕ) (s lanes : L
 painting-first d m first end a s lanes z l e k n = record {
   rows = e;
   narrow = k;
-  lanes = n;
+  room = n;
   place = at-first m first a z e;
   from = omega arith;
   to = l;
@@ -178,7 +185,7 @@ module _ (d : List ℕ) (m : Shape) (first end across : ℕ) (s out lanes : List
   painting-next a r o k after z l e f g = rw e (record {
     rows = p .rows;
     narrow = p .narrow;
-    lanes = g .1 .0;
+    room = g .1 .0;
     place = at-next m at across z (p .rows) (p .place);
     from = rw (next-block at across) (omega (arith, p .from));
     to = rw (next-block at across) (omega arith);

@@ -7,7 +7,7 @@ use native.Mathlib.Nat.{mul-comm, suc-mul, mul-le-mul-right, mod-lt, div-le-self
 use native.Mathlib.Decide.{decLt}
 use native.Mathlib.Omega.{arith}
 use lib.Dec.{eqb}
-use borrow.Author.Tests.{eqb-true, eqb-false}
+use borrow.Author.Tests.{eq-eqb, ne-eqb, eqb-true, eqb-false}
 use Rattle.image_shape.specs.Shapes.{acrossOf, downOf, totalOf}
 use Rattle.image_shape.specs.ShapeLaws.{Bounded}
 use Rattle.image_shape.specs.declared.Shape.{Shape}
@@ -21,6 +21,14 @@ spot b x y = record { block = b; column = x; row = y }
 -- the block after it, in rows of so many
 unfoldable pub nextOf : Spot → ℕ → Spot
 nextOf at across = cond (eqb (at .column + 1) across) (spot (at .block + 1) 0 (at .row + 1)) (spot (at .block + 1) (at .column + 1) (at .row))
+
+pub next-row : (at : Spot) (across : ℕ) → at .column + 1 ≡ across → spot (at .block + 1) 0 (at .row + 1) ≡ nextOf at across
+unfolding nextOf
+next-row at across e = rw (eq-eqb _ _ e)
+
+pub next-column : (at : Spot) (across : ℕ) → (at .column + 1 ≡ across → ⊥) → spot (at .block + 1) (at .column + 1) (at .row) ≡ nextOf at across
+unfolding nextOf
+next-column at across n = rw (ne-eqb _ _ n)
 
 pub record At (m : Shape) (at : Spot) : Type 0 where
   pub column : at .column < acrossOf m

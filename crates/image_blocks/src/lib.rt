@@ -5,7 +5,7 @@ ghost use Prim.Native.Nat.{_+_, _-_, _≤_, _<_};
 ghost use lib.ListN.{length};
 ghost use Rattle.answers.specs.Answers.{isBad};
 ghost use Rattle.lanes.specs.Lanes.{mostLanes};
-ghost use Rattle.block.specs.Tables.{Lent};
+ghost use Rattle.block_ordinary.specs.Facts.{Lent};
 ghost use Rattle.block_map.specs.Answer.{mapAnswer};
 ghost use Rattle.image_shape.specs.Shapes.{acrossOf, totalOf, bytesOf};
 ghost use Rattle.image_shape.specs.ShapeLaws.{Sized};

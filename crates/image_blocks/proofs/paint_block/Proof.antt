@@ -1,0 +1,77 @@
+-- `image_blocks::paint_block` paints what the block's decoding came to: its words copied from lanes, or one word everywhere. Assumes nothing.
+use Rattle.image_shape.specs.ShapeLaws.{sized-bounded}
+use Rattle.image_blocks.specs.Spots.{at-inside}
+use Rattle.image_blocks.specs.PaintedLaws.{part-is, part-length, legal-painted, one-painted}
+use mathlib.Core.Path.{_≡_}
+use borrow.Author.Needs.{needs}
+use Rattle.image_blocks.proofs.paint_block.Statement.{statement}
+use Rattle.image_blocks.proofs.paint_block.Tie as tie
+
+mul-start : tie.Need-mul-start
+mul-start c = search needs
+
+add-end : tie.Need-add-end
+add-end c = search needs
+
+sub-decode-lanes : tie.Need-sub-decode-lanes
+sub-decode-lanes c = search needs
+
+part-decode-lanes-start : tie.Need-part-decode-lanes-start
+part-decode-lanes-start c = search needs
+
+part-decode-lanes-end : tie.Need-part-decode-lanes-end
+part-decode-lanes-end c = search needs
+
+decode-lanes-requires : tie.Need-decode-lanes-requires
+decode-lanes-requires c κs =
+    let given = c .before .before .before .before .before .pre in
+    (given .0, (part-length _ _ _ _ (given .1 .0) (given .1 .1 .0), given .1 .0 .footprint))
+
+copy-block-requires : tie.Need-copy-block-requires
+copy-block-requires c κs =
+    let given = c .before .before .before .before .before .before .before .before .before .before .pre .1 in
+    (sized-bounded _ _ _ (given .0), (at-inside _ _ (given .1 .1 .0) (given .1 .0), given .0 .room))
+
+same-length : tie.Need-same-length
+same-length c = search needs
+
+returns : tie.Need-returns
+returns c =
+    let start = c .before .before .before .before .before .before .before .before .before .before .before .before .before in
+    let given = start .pre .1 in
+    let decoded = c .before .before .before .before .before .before .before .decode-lanes in
+    let z = c .before .before .before .before .before .if1 .taken in
+    rw (← z)
+    (legal-painted (start .args .«data» .now) (start .args .m) _ (start .args .at .block) (given .0) (given .1 .0) _ (part-is (start .args .«data» .now) (start .args .at .block)) _ (decoded .ensures .0) _ (start .args .lanes .now) _ _ _ (given .1 .1 .0 .block) z (given .1 .1 .1) (decoded .ensures .1) (c .before .before .copy-block .ensures))
+
+fill-block-requires : tie.Need-fill-block-requires
+fill-block-requires c κs =
+    let given = c .before .before .before .before .before .before .before .before .before .pre .1 in
+    (sized-bounded _ _ _ (given .0), (at-inside _ _ (given .1 .1 .0) (given .1 .0), given .0 .room))
+
+same-length-2 : tie.Need-same-length-2
+same-length-2 c = search needs
+
+returns-2 : tie.Need-returns-2
+returns-2 c =
+    let start = c .before .before .before .before .before .before .before .before .before .before .before .before in
+    let given = start .pre .1 in
+    let decoded = c .before .before .before .before .before .before .decode-lanes in
+    one-painted (start .args .«data» .now) (start .args .m) _ (start .args .at .block) (given .0) (given .1 .0) _ (part-is (start .args .«data» .now) (start .args .at .block)) _ (decoded .ensures .0) _ (start .args .lanes .now) _ _ _ (given .1 .1 .0 .block) (c .before .before .before .before .if1 .left) (given .1 .1 .1) (decoded .ensures .1) (c .before .before .fill-block .ensures)
+
+pub paint-block-spec : {M : Type 1} → statement M
+paint-block-spec =
+    tie.close
+    (tie.spec
+    mul-start
+    add-end
+    sub-decode-lanes
+    part-decode-lanes-start
+    part-decode-lanes-end
+    decode-lanes-requires
+    copy-block-requires
+    same-length
+    returns
+    fill-block-requires
+    same-length-2
+    returns-2)
