@@ -8,6 +8,7 @@ use Rattle.params_low.specs.Low.{confLen}
 use Rattle.params_modes.specs.Modes.{valuesTo}
 use Rattle.params_config.specs.Ranges.{cost}
 use Rattle.params_config.specs.declared.Grid.{Grid}
+use Rattle.params_config.specs.declared.Partitions.{Partitions}
 use Rattle.params_config.specs.declared.Config.{Config}
 
 -- ---- the block mode, bits 0..10
@@ -77,8 +78,20 @@ lowModes c = cond (eqb (partsOf c) 1) (bitsAt c 13 4) (bitsAt c 25 4)
 
 -- ---- all of it
 -- the other mode bits, which stand below the weights: with a base, 3 for each partition less these 4
-unfoldable pub modeBits : ℕ → ℕ
-modeBits c = cond (eqb (modeBase c) 0) 0 (3 * partsOf c - 4)
+unfoldable pub extraModeBits : ℕ → ℕ → ℕ
+extraModeBits parts base = cond (eqb base 0) 0 (3 * parts - 4)
+
+-- what it says of the partitions
+unfoldable pub partitionsOf : ℕ → Partitions
+partitionsOf c = record {
+  parts = partsOf c;
+  number = numberOf c;
+  base = modeBase c;
+  lowmodes = lowModes c;
+  values = valuesTo (modeBase c) (lowModes c) (partsOf c);
+  lowlen = confLen (partsOf c);
+  modebits = extraModeBits (partsOf c) (modeBase c);
+}
 
 unfoldable pub configOf : ℕ → Config
 configOf c = record {
@@ -86,12 +99,12 @@ configOf c = record {
   height = gridOf c .height;
   range = weightRange c;
   planes = planesOf c;
-  parts = partsOf c;
-  number = numberOf c;
-  base = modeBase c;
-  lowmodes = lowModes c;
-  values = valuesTo (modeBase c) (lowModes c) (partsOf c);
-  lowlen = confLen (partsOf c);
-  modebits = modeBits c;
+  parts = partitionsOf c .parts;
+  number = partitionsOf c .number;
+  base = partitionsOf c .base;
+  lowmodes = partitionsOf c .lowmodes;
+  values = partitionsOf c .values;
+  lowlen = partitionsOf c .lowlen;
+  modebits = partitionsOf c .modebits;
   weightlen = cost (weightRange c) (gridOf c .width * gridOf c .height * planesOf c);
 }

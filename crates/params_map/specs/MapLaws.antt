@@ -12,7 +12,7 @@ use Rattle.bits.specs.BitLaws.{same-bits}
 use Rattle.footprint.specs.declared.Footprint.{Footprint}
 use Rattle.params_low.specs.Low.{isVoid, confLen, lowOf}
 use Rattle.params_low.specs.LowLaws.{Same, void-low, low-same}
-use Rattle.params_config.specs.Config.{isReserved, partsOf, configOf}
+use Rattle.params_config.specs.Config.{isReserved, partsOf, partitionsOf, configOf}
 use Rattle.params_config.specs.declared.Config.{Config}
 use Rattle.params_rules.specs.Rules.{verdict}
 use Rattle.params_rules.specs.Fields.{Fields, fieldsOf, extraIn, answer}
@@ -110,7 +110,7 @@ pub record SameMapped (m : BlockMap) (v w : ℕ) : Type 0 where
   pub weights : Same v w (m .weightat) (m .weightlen)
 
 low-len-is : (c : ℕ) → legalMap (configOf c) .lowlen ≡ confLen (bitsAt c 11 2 + 1)
-unfolding legalMap configOf partsOf
+unfolding legalMap configOf partitionsOf partsOf
 low-len-is c = refl
 
 extra-field-is : (c v : ℕ) → bitsAt v (legalMap (configOf c) .extraat) (legalMap (configOf c) .extralen) ≡ extraIn (configOf c) v

@@ -99,11 +99,6 @@ unfolding valuesTo
 values-least base code zero h = omega arith
 values-least base code (suc p) h = omega arith
 
--- one partition's
-pub one-values : (base code p r : ℕ) → (r ≡ classIn base code 0) × (r ≤ 3) → p ≡ 1 → 2 * r + 2 ≡ valuesTo base code p
-unfolding valuesTo
-one-values base code p r e h = rw h (omega (arith, e .0))
-
 -- ---- the ways out of the code
 module _ (base code i : ℕ) (h : Coded base code) where
   pub class-alone : base ≡ 0 → (code / 4 ≡ classIn base code i) × (code / 4 ≤ 3)
