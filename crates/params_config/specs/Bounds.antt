@@ -1,16 +1,15 @@
 -- How large the numbers of a configuration are.
 -- Assumes nothing.
-use mathlib.Core.Path.{_≡_, refl, sym, _∙_}
+use mathlib.Core.Path.{_≡_, refl}
 use mathlib.Core.Bool.{Bool, true, false, cond, _||_}
-use Prim.Native.Nat.{ℕ, zero, suc, _+_, _-_, _*_, _/_, _%_, _^_, _≤_, _<_}
-use native.Mathlib.Nat.{mul-le-mul, div-one, lt-of-lt-of-le}
-use lib.Pow.{mod-pow-add, pow-mono}
+use Prim.Native.Nat.{ℕ, _+_, _-_, _*_, _/_, _%_, _≤_, _<_}
+use native.Mathlib.Nat.{mul-le-mul, div-one}
+use lib.Pow.{mod-pow-add}
 use native.Mathlib.Omega.{arith}
-use lib.Dec.{eqb, leb, leb→le, eqb→eq}
-use borrow.Author.Tests.{eq-eqb, ne-eqb, eqb-true, eqb-false}
+use lib.Dec.{eqb}
+use borrow.Author.Tests.{ne-eqb, eqb-true, eqb-false}
 use Rattle.bits.specs.Bits.{bitsAt}
 use Rattle.bits.specs.BitLaws.{bits-lt}
-use Rattle.laws.specs.Table.{all-at}
 use Rattle.laws.specs.Numbers.{choice, choice-le}
 use Rattle.sequence.specs.Ranges.{rangeOf, most}
 use Rattle.sequence.specs.Sequence.{per, shared, totalOf}
@@ -25,7 +24,6 @@ use Rattle.params_config.specs.Ranges.{cost}
 use Rattle.params_config.specs.Config.{isReserved, gridLow, gridHigh, gridOf, weightR, weightH, weightD, lacksDH, partsOf, numberOf, modeBase, lowModes, extraModeBits, partitionsOf, configOf, weightRange, planesOf, grid, oneOf}
 use Rattle.params_config.specs.declared.Config.{Config}
 use Rattle.params_config.specs.declared.Grid.{Grid}
-use Rattle.params_config.specs.declared.Partitions.{Partitions}
 
 pub record Small (k : Config) : Type 0 where
   pub column : 2 ≤ k .width
