@@ -68,7 +68,7 @@ partsOf c = bitsAt c 11 2 + 1
 unfoldable pub numberOf : ℕ → ℕ
 numberOf c = cond (eqb (partsOf c) 1) 0 (bitsAt c 13 10)
 
--- 0: one mode for all partitions
+-- the base of the modes. 0: one mode for all partitions
 unfoldable pub modeBase : ℕ → ℕ
 modeBase c = cond (eqb (partsOf c) 1) 0 (bitsAt c 23 2)
 
@@ -76,12 +76,11 @@ modeBase c = cond (eqb (partsOf c) 1) 0 (bitsAt c 23 2)
 unfoldable pub lowModes : ℕ → ℕ
 lowModes c = cond (eqb (partsOf c) 1) (bitsAt c 13 4) (bitsAt c 25 4)
 
--- ---- all of it
 -- the other mode bits, which stand below the weights: with a base, 3 for each partition less these 4
 unfoldable pub extraModeBits : ℕ → ℕ → ℕ
 extraModeBits parts base = cond (eqb base 0) 0 (3 * parts - 4)
 
--- what it says of the partitions
+-- what it says of the partitions. Their values are counted by the four lowest mode bits, for the classes of the modes stand there
 unfoldable pub partitionsOf : ℕ → Partitions
 partitionsOf c = record {
   parts = partsOf c;
@@ -93,6 +92,7 @@ partitionsOf c = record {
   modebits = extraModeBits (partsOf c) (modeBase c);
 }
 
+-- ---- all of it
 unfoldable pub configOf : ℕ → Config
 configOf c = record {
   width = gridOf c .width;
