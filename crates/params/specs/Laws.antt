@@ -14,10 +14,10 @@ use Rattle.bits.specs.BitLaws.{bits-lt}
 use Rattle.bits_reversal.specs.ReversalLaws.{reversed-top}
 use Rattle.footprint.specs.declared.Footprint.{Footprint}
 use Rattle.params_low.specs.Low.{isVoid, lowOf}
-use Rattle.params_modes.specs.Modes.{modesOf, valuesTo}
+use Rattle.params_modes.specs.Modes.{valuesTo}
 use Rattle.params_modes.specs.ModeLaws.{Coded, values-low}
 use Rattle.params_config.specs.Config.{isReserved, configOf}
-use Rattle.params_config.specs.Bounds.{Small, small}
+use Rattle.params_config.specs.Bounds.{Small}
 use Rattle.params_config.specs.declared.Config.{Config}
 use Rattle.params_rules.specs.Rules.{used, verdict}
 use Rattle.params_rules.specs.Fields.{Fields, fieldsOf, extraIn, answer}
@@ -25,8 +25,7 @@ use Rattle.params_rules.specs.FieldLaws.{ordinary, low-is, extra-is, told-reser
 use Rattle.params_room.specs.RoomLaws.{Widest, range-is}
 use Rattle.params_map.specs.Map.{legalMap, mapIn, mapOf}
 use Rattle.params_map.specs.MapLaws.{map-answer, map-legal, in-order, Mapped, SameBlock, unmapped}
-use Rattle.params_map.specs.declared.BlockMap.{BlockMap}
-use Rattle.params.specs.Params.{channelOf, upperOf, codeIn, legal, refused, paramsIn, paramsOf, endsField, weightsField}
+use Rattle.params.specs.Params.{upperOf, codeIn, legal, refused, paramsIn, paramsOf, endsField, weightsField}
 use Rattle.params.specs.declared.Params.{Params}
 
 -- ---- by the answer

@@ -111,5 +111,9 @@ pub fn decode_block_params(b: Block, f: Footprint) -> Params
     }
     let k = params_config::read_config(c);
     let a = params_rules::judge(k, f);
-    if a == 0 { accept(b, k) } else { refuse(a) }
+    if a == answers::LEGAL {
+        accept(b, k)
+    } else {
+        refuse(a)
+    }
 }

@@ -1,26 +1,27 @@
 -- How large the numbers of a configuration are.
 -- Assumes nothing.
-use mathlib.Core.Path.{_≡_, refl, sym, _∙_}
+use mathlib.Core.Path.{_≡_, refl}
 use mathlib.Core.Bool.{Bool, true, false, cond, _||_}
-use Prim.Native.Nat.{ℕ, zero, suc, _+_, _-_, _*_, _/_, _%_, _^_, _≤_, _<_}
-use native.Mathlib.Nat.{mul-le-mul, div-one, lt-of-lt-of-le}
-use lib.Pow.{mod-pow-add, pow-mono}
+use Prim.Native.Nat.{ℕ, _+_, _-_, _*_, _/_, _%_, _≤_, _<_}
+use native.Mathlib.Nat.{mul-le-mul, div-one}
+use lib.Pow.{mod-pow-add}
 use native.Mathlib.Omega.{arith}
-use lib.Dec.{eqb, leb, leb→le, eqb→eq}
-use borrow.Author.Tests.{eq-eqb, ne-eqb, eqb-true, eqb-false}
+use lib.Dec.{eqb}
+use borrow.Author.Tests.{ne-eqb, eqb-true, eqb-false}
 use Rattle.bits.specs.Bits.{bitsAt}
 use Rattle.bits.specs.BitLaws.{bits-lt}
-use Rattle.laws.specs.Table.{all-at}
 use Rattle.laws.specs.Numbers.{choice, choice-le}
 use Rattle.sequence_ranges.specs.Ranges.{rangeOf, most}
 use Rattle.sequence_ranges.specs.Ranges.{per, shared, totalOf}
 use Rattle.sequence_ranges.specs.RangeLaws.{legal}
 use Rattle.sequence_ranges.specs.declared.Kind.{Kind}
 use Rattle.sequence_ranges.specs.declared.Kind.the-variants.{Plain, Trits, Quints}
+use Rattle.params_low.specs.Low.{confLen}
 use Rattle.params_low.specs.LowLaws.{conf-most}
+use Rattle.params_modes.specs.Modes.{classIn, valuesTo}
 use Rattle.params_modes.specs.ModeLaws.{Coded, values-most, values-even, values-least}
 use Rattle.params_config.specs.Ranges.{cost}
-use Rattle.params_config.specs.Config.{isReserved, gridLow, gridHigh, gridOf, weightR, weightH, weightD, lacksDH, partsOf, numberOf, modeBase, lowModes, modeBits, configOf, weightRange, planesOf, grid, oneOf}
+use Rattle.params_config.specs.Config.{isReserved, gridLow, gridHigh, gridOf, weightR, weightH, weightD, lacksDH, partsOf, numberOf, modeBase, lowModes, extraModeBits, partitionsOf, configOf, weightRange, planesOf, grid, oneOf}
 use Rattle.params_config.specs.declared.Config.{Config}
 use Rattle.params_config.specs.declared.Grid.{Grid}
 
@@ -145,14 +146,6 @@ pub base-most : (c : ℕ) → modeBase c ≤ 3
 unfolding modeBase bitsAt
 base-most c = choice-le (eqb (partsOf c) 1) 0 (c / 8388608 % 4) (omega arith) (omega arith)
 
-pub base-parts : (c : ℕ) → (modeBase c ≡ 0 → ⊥) → 2 ≤ partsOf c
-unfolding modeBase
-base-parts c h = go (eqb (partsOf c) 1) refl h
-  where
-    go : (t : Bool) → eqb (partsOf c) 1 ≡ t → (cond t 0 (bitsAt c 23 2) ≡ 0 → ⊥) → 2 ≤ partsOf c
-    go true e k = absurd (k refl)
-    go false e k = let n : partsOf c ≡ 1 → ⊥ = eqb-false _ _ e in omega (arith, parts-least c)
-
 pub number-lt : (c : ℕ) → numberOf c < 1024
 unfolding numberOf
 number-lt c = choice (eqb (partsOf c) 1) 0 (bitsAt c 13 10) (omega arith) (bits-lt c 13 10)
@@ -164,8 +157,8 @@ low-modes-lt c = choice (eqb (partsOf c) 1) (bitsAt c 13 4) (bitsAt c 25 4) (bit
 pub coded : (c : ℕ) → Coded (modeBase c) (lowModes c)
 coded c = record { most = base-most c; alone = λ e. low-modes-lt c }
 
-mode-bits-most : (c : ℕ) → modeBits c ≤ 8
-unfolding modeBits
+mode-bits-most : (c : ℕ) → extraModeBits (partsOf c) (modeBase c) ≤ 8
+unfolding extraModeBits
 mode-bits-most c = choice-le (eqb (modeBase c) 0) 0 (3 * partsOf c - 4) (omega arith) (omega (arith, parts-most c))
 
 -- ---- all of it
@@ -179,7 +172,7 @@ pub range-most : (c : ℕ) → weightRange c ≤ 11
 range-most c = omega (arith, r-most c, h-most c)
 
 pub small : (c : ℕ) → Small (configOf c)
-unfolding configOf
+unfolding configOf partitionsOf
 small c = record {
   column = grid-small c .column;
   width = grid-small c .width;
@@ -203,3 +196,22 @@ small c = record {
 
 pub small-of : (c : ℕ) (k : Config) → k ≡ configOf c → Small k
 small-of c k e = rw e (small c)
+
+-- ---- the partitions, as the code reads them
+one-values : (x : ℕ) → 2 * (x / 4) + 2 ≡ valuesTo 0 x 1
+unfolding valuesTo classIn
+one-values x = omega arith
+
+pub one-is : (c : ℕ) → partsOf c ≡ 1
+    → record { parts = 1; number = 0; base = 0; lowmodes = c / 8192 % 16; values = 2 * (c / 8192 % 16 / 4) + 2; lowlen = 17; modebits = 0 } ≡ partitionsOf c
+unfolding partitionsOf numberOf modeBase lowModes extraModeBits confLen bitsAt
+one-is c e = rw (e, one-values (c / 8192 % 16))
+
+pub several-is : (c parts n : ℕ) (m : ℕ) → parts ≡ partsOf c → 2 ≤ parts → n ≡ valuesTo (c / 8388608 % 4) (c / 33554432 % 16) parts → m ≡ extraModeBits parts (c / 8388608 % 4)
+    → record { parts = parts; number = c / 8192 % 1024; base = c / 8388608 % 4; lowmodes = c / 33554432 % 16; values = n; lowlen = 29; modebits = m } ≡ partitionsOf c
+unfolding partitionsOf numberOf modeBase lowModes confLen bitsAt
+several-is c parts n m e h d g = rw (d, g, e, ne-eqb (partsOf c) 1 (λ z. omega (arith, z, e)))
+
+pub parts-is : (c : ℕ) → c / 2048 % 4 + 1 ≡ partsOf c
+unfolding partsOf bitsAt
+parts-is c = refl

@@ -8,6 +8,7 @@ use Rattle.params_low.specs.Low.{confLen}
 use Rattle.params_modes.specs.Modes.{valuesTo}
 use Rattle.params_config.specs.Ranges.{cost}
 use Rattle.params_config.specs.declared.Grid.{Grid}
+use Rattle.params_config.specs.declared.Partitions.{Partitions}
 use Rattle.params_config.specs.declared.Config.{Config}
 
 -- ---- the block mode, bits 0..10
@@ -67,7 +68,7 @@ partsOf c = bitsAt c 11 2 + 1
 unfoldable pub numberOf : ℕ → ℕ
 numberOf c = cond (eqb (partsOf c) 1) 0 (bitsAt c 13 10)
 
--- 0: one mode for all partitions
+-- the base of the modes. 0: one mode for all partitions
 unfoldable pub modeBase : ℕ → ℕ
 modeBase c = cond (eqb (partsOf c) 1) 0 (bitsAt c 23 2)
 
@@ -75,23 +76,35 @@ modeBase c = cond (eqb (partsOf c) 1) 0 (bitsAt c 23 2)
 unfoldable pub lowModes : ℕ → ℕ
 lowModes c = cond (eqb (partsOf c) 1) (bitsAt c 13 4) (bitsAt c 25 4)
 
--- ---- all of it
 -- the other mode bits, which stand below the weights: with a base, 3 for each partition less these 4
-unfoldable pub modeBits : ℕ → ℕ
-modeBits c = cond (eqb (modeBase c) 0) 0 (3 * partsOf c - 4)
+unfoldable pub extraModeBits : ℕ → ℕ → ℕ
+extraModeBits parts base = cond (eqb base 0) 0 (3 * parts - 4)
 
-unfoldable pub configOf : ℕ → Config
-configOf c = record {
-  width = gridOf c .width;
-  height = gridOf c .height;
-  range = weightRange c;
-  planes = planesOf c;
+-- what it says of the partitions. Their values are counted by the four lowest mode bits, for the classes of the modes stand there
+unfoldable pub partitionsOf : ℕ → Partitions
+partitionsOf c = record {
   parts = partsOf c;
   number = numberOf c;
   base = modeBase c;
   lowmodes = lowModes c;
   values = valuesTo (modeBase c) (lowModes c) (partsOf c);
   lowlen = confLen (partsOf c);
-  modebits = modeBits c;
+  modebits = extraModeBits (partsOf c) (modeBase c);
+}
+
+-- ---- all of it
+unfoldable pub configOf : ℕ → Config
+configOf c = record {
+  width = gridOf c .width;
+  height = gridOf c .height;
+  range = weightRange c;
+  planes = planesOf c;
+  parts = partitionsOf c .parts;
+  number = partitionsOf c .number;
+  base = partitionsOf c .base;
+  lowmodes = partitionsOf c .lowmodes;
+  values = partitionsOf c .values;
+  lowlen = partitionsOf c .lowlen;
+  modebits = partitionsOf c .modebits;
   weightlen = cost (weightRange c) (gridOf c .width * gridOf c .height * planesOf c);
 }

@@ -2,13 +2,23 @@
 ghost use mathlib.Core.Path.{_≡_};
 ghost use mathlib.Core.Bool.{false};
 ghost use Prim.Native.Nat.{_*_, _≤_, _<_};
-ghost use Rattle.params_low.specs.Low.{confLen};
 ghost use Rattle.params_config.specs.Ranges.{cost};
-ghost use Rattle.params_config.specs.Config.{isReserved, gridLow, gridHigh, gridOf, weightR, weightH, weightD, lacksDH, partsOf, numberOf, modeBase, lowModes, modeBits, configOf};
+ghost use Rattle.params_config.specs.Config.{isReserved, gridLow, gridHigh, gridOf, weightR, weightH, weightD, lacksDH, partsOf, extraModeBits, partitionsOf, configOf};
 
 pub struct Grid {
     pub width: usize,
     pub height: usize,
+}
+
+// What it says of the partitions.
+pub struct Partitions {
+    pub parts: usize,
+    pub number: usize,
+    pub base: usize,
+    pub lowmodes: usize,
+    pub values: usize,
+    pub lowlen: usize,
+    pub modebits: usize,
 }
 
 // What the low configuration says of a block whose mode is not reserved. The base and the low modes are the endpoint modes as they
@@ -153,49 +163,56 @@ fn d_of(c: usize) -> usize
     if lacks_dh(c) { 0 } else { c / 1024 % 2 }
 }
 
-fn parts_of(c: usize) -> usize
-    ensures { λ r. ⌜ r ≡ partsOf c ⌝ }
+// The mode bits of a block with several partitions that stand below its weights: with a base, 3 for each partition less 4.
+fn extra_mode_bits(parts: usize, base: usize) -> usize
+    requires { ⌜ (2 ≤ parts) × (parts ≤ 4) ⌝ }
+    ensures { λ r. ⌜ r ≡ extraModeBits parts base ⌝ }
 {
-    c / 2048 % 4 + 1
+    if base == 0 { 0 } else { 3 * parts - 4 }
 }
 
-// The partition number, 0 with one partition.
-fn number_of(c: usize) -> usize
-    ensures { λ r. ⌜ r ≡ numberOf c ⌝ }
+// One partition is the common case: it has no number, no base and one mode.
+fn one_partition(c: usize) -> Partitions
+    requires { ⌜ partsOf c ≡ 1 ⌝ }
+    ensures { λ r. ⌜ r ≡ partitionsOf c ⌝ }
 {
-    if parts_of(c) == 1 { 0 } else { c / 8192 % 1024 }
-}
-
-fn mode_base(c: usize) -> usize
-    ensures { λ r. ⌜ r ≡ modeBase c ⌝ }
-{
-    if parts_of(c) == 1 { 0 } else { c / 8388608 % 4 }
-}
-
-// The four lowest mode bits, which stand in the low configuration.
-fn low_modes(c: usize) -> usize
-    ensures { λ r. ⌜ r ≡ lowModes c ⌝ }
-{
-    if parts_of(c) == 1 {
-        c / 8192 % 16
-    } else {
-        c / 33554432 % 16
+    let mode = c / 8192 % 16;
+    Partitions {
+        parts: 1,
+        number: 0,
+        base: 0,
+        lowmodes: mode,
+        values: 2 * (mode / 4) + 2,
+        lowlen: 17,
+        modebits: 0,
     }
 }
 
-fn low_len(parts: usize) -> usize
-    ensures { λ r. ⌜ r ≡ confLen parts ⌝ }
+fn several_partitions(c: usize, parts: usize) -> Partitions
+    requires { ⌜ (parts ≡ partsOf c) × ((2 ≤ parts) × (parts ≤ 4)) ⌝ }
+    ensures { λ r. ⌜ r ≡ partitionsOf c ⌝ }
 {
-    if parts == 1 { 17 } else { 29 }
+    let base = c / 8388608 % 4;
+    let lowmodes = c / 33554432 % 16;
+    Partitions {
+        parts,
+        number: c / 8192 % 1024,
+        base,
+        lowmodes,
+        values: params_modes::values_of(parts, base, lowmodes),
+        lowlen: 29,
+        modebits: extra_mode_bits(parts, base),
+    }
 }
 
-fn mode_bits(c: usize) -> usize
-    ensures { λ r. ⌜ r ≡ modeBits c ⌝ }
+fn read_partitions(c: usize) -> Partitions
+    ensures { λ r. ⌜ r ≡ partitionsOf c ⌝ }
 {
-    if mode_base(c) == 0 {
-        0
+    let parts = c / 2048 % 4 + 1;
+    if parts == 1 {
+        one_partition(c)
     } else {
-        3 * parts_of(c) - 4
+        several_partitions(c, parts)
     }
 }
 
@@ -214,22 +231,20 @@ pub fn read_config(c: usize) -> Config
     let g = grid_of(c);
     let range = r_of(c) - 2 + 6 * h_of(c);
     let planes = 1 + d_of(c);
-    let parts = parts_of(c);
-    let base = mode_base(c);
-    let lowmodes = low_modes(c);
+    let p = read_partitions(c);
     let weights = weights_of(g, planes);
     Config {
         width: g.width,
         height: g.height,
         range,
         planes,
-        parts,
-        number: number_of(c),
-        base,
-        lowmodes,
-        values: params_modes::values_of(parts, base, lowmodes),
-        lowlen: low_len(parts),
-        modebits: mode_bits(c),
+        parts: p.parts,
+        number: p.number,
+        base: p.base,
+        lowmodes: p.lowmodes,
+        values: p.values,
+        lowlen: p.lowlen,
+        modebits: p.modebits,
         weightlen: range_bits(range, weights),
     }
 }

@@ -12,7 +12,7 @@ use Rattle.bits.specs.BitLaws.{same-bits}
 use Rattle.footprint.specs.declared.Footprint.{Footprint}
 use Rattle.params_low.specs.Low.{isVoid, confLen, lowOf}
 use Rattle.params_low.specs.LowLaws.{Same, void-low, low-same}
-use Rattle.params_config.specs.Config.{isReserved, partsOf, configOf}
+use Rattle.params_config.specs.Config.{isReserved, partsOf, partitionsOf, configOf}
 use Rattle.params_config.specs.declared.Config.{Config}
 use Rattle.params_rules.specs.Rules.{verdict}
 use Rattle.params_rules.specs.Fields.{Fields, fieldsOf, extraIn, answer}
@@ -75,13 +75,13 @@ Inside s n k = (s ≤ k) × (k < s + n)
 
 -- bit k stands in a field of the map
 abbrev pub Mapped : BlockMap → ℕ → Type 0
-Mapped m k = Inside 0 (m .lowlen) k ⊎ (Inside (m .endat) (m .endlen) k ⊎ (Inside (m .extraat) (m .extralen) k ⊎ Inside (m .weightat) (m .weightlen) k))
+Mapped m k = Inside (m .lowat) (m .lowlen) k ⊎ (Inside (m .endat) (m .endlen) k ⊎ (Inside (m .extraat) (m .extralen) k ⊎ Inside (m .weightat) (m .weightlen) k))
 
 -- no bit stands in two fields, and none past bit 127
 pub record Disjoint (m : BlockMap) (k : ℕ) : Type 0 where
-  pub low-ends : Inside 0 (m .lowlen) k → Inside (m .endat) (m .endlen) k → ⊥
-  pub low-extra : Inside 0 (m .lowlen) k → Inside (m .extraat) (m .extralen) k → ⊥
-  pub low-weights : Inside 0 (m .lowlen) k → Inside (m .weightat) (m .weightlen) k → ⊥
+  pub low-ends : Inside (m .lowat) (m .lowlen) k → Inside (m .endat) (m .endlen) k → ⊥
+  pub low-extra : Inside (m .lowat) (m .lowlen) k → Inside (m .extraat) (m .extralen) k → ⊥
+  pub low-weights : Inside (m .lowat) (m .lowlen) k → Inside (m .weightat) (m .weightlen) k → ⊥
   pub ends-extra : Inside (m .endat) (m .endlen) k → Inside (m .extraat) (m .extralen) k → ⊥
   pub ends-weights : Inside (m .endat) (m .endlen) k → Inside (m .weightat) (m .weightlen) k → ⊥
   pub extra-weights : Inside (m .extraat) (m .extralen) k → Inside (m .weightat) (m .weightlen) k → ⊥
@@ -104,13 +104,17 @@ disjoint v f k e =
 -- ---- locality: whatever stands at the unmapped bits, the fields are the same
 -- two blocks have the same bits at every mapped bit
 pub record SameMapped (m : BlockMap) (v w : ℕ) : Type 0 where
-  pub low : Same v w 0 (m .lowlen)
+  pub low : Same v w (m .lowat) (m .lowlen)
   pub ends : Same v w (m .endat) (m .endlen)
   pub extra : Same v w (m .extraat) (m .extralen)
   pub weights : Same v w (m .weightat) (m .weightlen)
 
+low-at-is : (c : ℕ) → legalMap (configOf c) .lowat ≡ 0
+unfolding legalMap
+low-at-is c = refl
+
 low-len-is : (c : ℕ) → legalMap (configOf c) .lowlen ≡ confLen (bitsAt c 11 2 + 1)
-unfolding legalMap configOf partsOf
+unfolding legalMap configOf partitionsOf partsOf
 low-len-is c = refl
 
 extra-field-is : (c v : ℕ) → bitsAt v (legalMap (configOf c) .extraat) (legalMap (configOf c) .extralen) ≡ extraIn (configOf c) v
@@ -120,7 +124,7 @@ extra-field-is c v = refl
 local : (v w : ℕ) → isVoid v ≡ false → SameMapped (legalMap (configOf (lowOf v))) v w → fieldsOf v ≡ fieldsOf w
 local v w h s =
     let m = legalMap (configOf (lowOf v)) in
-    let l : lowOf v ≡ lowOf w = low-same v w (rw (low-len-is (lowOf v)) at (s .low)) in
+    let l : lowOf v ≡ lowOf w = low-same v w (rw (low-at-is (lowOf v), low-len-is (lowOf v)) at (s .low)) in
     let x : extraIn (configOf (lowOf v)) v ≡ extraIn (configOf (lowOf v)) w =
     sym (extra-field-is (lowOf v) v) ∙ same-bits v w (m .extraat) (m .extralen) (s .extra) ∙ extra-field-is (lowOf v) w in
     fields-same v w h l (x ∙ ap (λ (c : ℕ). extraIn (configOf c) w) l)

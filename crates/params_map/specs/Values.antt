@@ -8,7 +8,7 @@ use Rattle.footprint.specs.Footprints.{footprint}
 use Rattle.params_low.specs.Low.{isVoid, confLen, lowOf, extentOf}
 use Rattle.params_modes.specs.Modes.{classIn, valuesTo}
 use Rattle.params_config.specs.Ranges.{cost}
-use Rattle.params_config.specs.Config.{isReserved, lacksDH, gridLow, gridHigh, gridOf, weightR, weightH, weightD, partsOf, numberOf, modeBase, lowModes, modeBits, configOf}
+use Rattle.params_config.specs.Config.{isReserved, lacksDH, gridLow, gridHigh, gridOf, weightR, weightH, weightD, partsOf, numberOf, modeBase, lowModes, extraModeBits, partitionsOf, configOf}
 use Rattle.params_rules.specs.Rules.{endVerdict, verdict}
 use Rattle.params_rules.specs.Fields.{fieldsOf, answer}
 use Rattle.params_rules.specs.Values.{p1, p2}
@@ -20,5 +20,5 @@ pub record Values : Type 0 where
   pub P2-FF : mapOf (bytes 16 p2) (footprint 4 4) ≡ mapOf (bytes 16 p1) (footprint 4 4)
 
 pub values : Values
-unfolding bitsAt bytes ranges rangeOf tops topOf totalOf cost widest isVoid isReserved lacksDH gridLow gridHigh gridOf weightR weightH weightD partsOf numberOf modeBase lowModes classIn valuesTo confLen lowOf extentOf modeBits configOf endVerdict verdict fieldsOf answer legalMap noMap mapIn p1 p2
+unfolding bitsAt bytes ranges rangeOf tops topOf totalOf cost widest isVoid isReserved lacksDH gridLow gridHigh gridOf weightR weightH weightD partsOf numberOf modeBase lowModes classIn valuesTo confLen lowOf extentOf extraModeBits partitionsOf configOf endVerdict verdict fieldsOf answer legalMap noMap mapIn p1 p2
 values = record { P2 = refl; P2-FF = refl }

@@ -104,5 +104,9 @@ pub fn decode_block_map(b: Block, f: Footprint) -> BlockMap
     }
     let k = params_config::read_config(c);
     let a = params_rules::judge(k, f);
-    if a == 0 { legal_map(k) } else { no_map(a) }
+    if a == answers::LEGAL {
+        legal_map(k)
+    } else {
+        no_map(a)
+    }
 }

@@ -1,17 +1,16 @@
 -- How large modes are, that their classes stand in the low four bits of the code, and how many values they take.
 -- Assumes nothing.
-use mathlib.Core.Path.{_≡_, refl, sym, ap, _∙_}
+use mathlib.Core.Path.{_≡_, refl}
 use mathlib.Core.Bool.{Bool, true, false, cond}
-use mathlib.Core.List.{List, [], _∷_}
 use Prim.Native.Nat.{ℕ, zero, suc, _+_, _-_, _*_, _/_, _%_, _^_, _≤_, _<_}
 use native.Mathlib.Omega.{arith}
 use lib.Dec.{eqb, ltb}
 use lib.ListN.{getD}
-use borrow.Author.Tests.{eq-eqb, ne-eqb, eqb-true, eqb-false, lt-ltb}
-use Rattle.laws.specs.Numbers.{choice, choice-le}
+use borrow.Author.Tests.{eq-eqb, ne-eqb, eqb-true, lt-ltb}
+use Rattle.laws.specs.Numbers.{choice}
 use Rattle.bits.specs.Bits.{bitsAt}
 use Rattle.bits.specs.BitLaws.{bits-lt}
-use Rattle.params_modes.specs.Modes.{classIn, modeIn, modeAt, modesOf, valuesTo}
+use Rattle.params_modes.specs.Modes.{classIn, modeIn, modesOf, valuesTo}
 
 -- a base has two bits, and one mode for all partitions has four
 pub record Coded (base code : ℕ) : Type 0 where
@@ -98,11 +97,6 @@ pub values-least : (base code p : ℕ) → 1 ≤ p → 2 ≤ valuesTo base code 
 unfolding valuesTo
 values-least base code zero h = omega arith
 values-least base code (suc p) h = omega arith
-
--- one partition's
-pub one-values : (base code p r : ℕ) → (r ≡ classIn base code 0) × (r ≤ 3) → p ≡ 1 → 2 * r + 2 ≡ valuesTo base code p
-unfolding valuesTo
-one-values base code p r e h = rw h (omega (arith, e .0))
 
 -- ---- the ways out of the code
 module _ (base code i : ℕ) (h : Coded base code) where

@@ -50,7 +50,8 @@ pub fn modes_of(parts: usize, base: usize, code: usize) -> [u8; 4]
     ]
 }
 
-fn count_values(parts: usize, base: usize, code: usize) -> usize
+// The endpoint values of all partitions.
+pub fn values_of(parts: usize, base: usize, code: usize) -> usize
     requires { ⌜ (Coded base code) × (parts ≤ 4) ⌝ }
     ensures { λ r. ⌜ r ≡ valuesTo base code parts ⌝ }
 {
@@ -61,15 +62,4 @@ fn count_values(parts: usize, base: usize, code: usize) -> usize
         i += 1;
     }
     n
-}
-
-// The endpoint values of all partitions. One partition is the common case, and needs no loop.
-pub fn values_of(parts: usize, base: usize, code: usize) -> usize
-    requires { ⌜ (Coded base code) × (parts ≤ 4) ⌝ }
-    ensures { λ r. ⌜ r ≡ valuesTo base code parts ⌝ }
-{
-    if parts == 1 {
-        return 2 * class_of(base, code, 0) + 2;
-    }
-    count_values(parts, base, code)
 }

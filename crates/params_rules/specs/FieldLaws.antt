@@ -1,12 +1,12 @@
 -- What an answer says of a block, and that a block is judged by its fields alone.
 -- Assumes nothing.
 use mathlib.Core.Path.{_≡_, refl, sym, ap, _∙_}
-use mathlib.Core.Bool.{Bool, true, false, cond}
-use Prim.Native.Nat.{ℕ, _≤_, _<_}
+use mathlib.Core.Bool.{Bool, true, false}
+use Prim.Native.Nat.{ℕ, _<_}
 use native.Mathlib.Omega.{arith}
 use Rattle.laws.specs.Numbers.{choice}
 use Rattle.footprint.specs.declared.Footprint.{Footprint}
-use Rattle.params_low.specs.Low.{isVoid, lowOf, extentOf}
+use Rattle.params_low.specs.Low.{isVoid, lowOf}
 use Rattle.params_low.specs.LowLaws.{void-low, extent-none}
 use Rattle.params_config.specs.Config.{isReserved, configOf}
 use Rattle.params_config.specs.declared.Config.{Config}

@@ -30,10 +30,10 @@ fn judge_ends(k: Config) -> usize
     if 128 < (13 * k.values + 4) / 5 + used_bits(k) {
         return answers::TOO_LITTLE_ROOM;
     }
-    0
+    answers::LEGAL
 }
 
-// Rules 11 to 16: the first that what k says breaks at the footprint f, and 0 if it breaks none.
+// Rules 11 to 16: the first that what k says breaks at the footprint f, and LEGAL if it breaks none.
 pub fn judge(k: Config, f: Footprint) -> usize
     requires { ⌜ Small k ⌝ }
     ensures { λ r. ⌜ r ≡ verdict k f ⌝ }

@@ -1,7 +1,7 @@
 -- `params_config::read_config` meets its contract: each part of the record is the one that its function ensures. Assumes nothing.
 use native.Mathlib.Omega.{arith}
 use Rattle.params_config.specs.Config.{configOf}
-use Rattle.params_config.specs.Bounds.{parts-most, r-least, r-most, h-most, d-most, coded, weights-most, grid-small}
+use Rattle.params_config.specs.Bounds.{r-least, r-most, h-most, d-most, weights-most, grid-small}
 use borrow.Author.Needs.{needs}
 use Rattle.params_config.proofs.read_config.Statement.{statement}
 use Rattle.params_config.proofs.read_config.Tie as tie
@@ -30,36 +30,18 @@ d-of-requires c κs = search needs
 add-planes : tie.Need-add-planes
 add-planes c = omega (arith, d-most (c .before .before .before .before .args .c))
 
-parts-of-requires : tie.Need-parts-of-requires
-parts-of-requires c κs = search needs
-
-mode-base-requires : tie.Need-mode-base-requires
-mode-base-requires c κs = search needs
-
-low-modes-requires : tie.Need-low-modes-requires
-low-modes-requires c κs = search needs
+read-partitions-requires : tie.Need-read-partitions-requires
+read-partitions-requires c κs = search needs
 
 weights-of-requires : tie.Need-weights-of-requires
-weights-of-requires c κs = let k = c .before .before .before .before .before .before .before .args .c in let g = grid-small k in rw (c .before .before .before .before .before .before .grid-of .ensures) (g .width, (g .height, omega (arith, d-most k)))
-
-number-of-requires : tie.Need-number-of-requires
-number-of-requires c κs = search needs
-
-values-of-requires : tie.Need-values-of-requires
-values-of-requires c κs = let k = c .before .before .before .before .before .before .before .before .before .args .c in rw (c .before .before .before .mode-base .ensures, c .before .before .low-modes .ensures, c .before .before .before .before .parts-of .ensures) (coded k, parts-most k)
-
-low-len-requires : tie.Need-low-len-requires
-low-len-requires c κs = search needs
-
-mode-bits-requires : tie.Need-mode-bits-requires
-mode-bits-requires c κs = search needs
+weights-of-requires c κs = let k = c .before .before .before .before .before .args .c in let g = grid-small k in rw (c .before .before .before .before .grid-of .ensures) (g .width, (g .height, omega (arith, d-most k)))
 
 range-bits-requires : tie.Need-range-bits-requires
-range-bits-requires c κs = let k = c .before .before .before .before .before .before .before .before .before .before .before .before .args .c in (omega (arith, r-most k, h-most k), rw (c .before .before .before .before .weights-of .ensures, c .before .before .before .before .before .before .before .before .before .before .before .grid-of .ensures, c .before .before .before .before .before .before .before .before .d-of .ensures) (weights-most k))
+range-bits-requires c κs = let k = c .before .before .before .before .before .before .args .c in (omega (arith, r-most k, h-most k), rw (c .weights-of .ensures, c .before .before .before .before .before .grid-of .ensures, c .before .before .d-of .ensures) (weights-most k))
 
 returns : tie.Need-returns
 unfolding configOf
-returns c = simp (c .range-bits .ensures, c .before .mode-bits .ensures, c .before .before .low-len .ensures, c .before .before .before .values-of .ensures, c .before .before .before .before .number-of .ensures, c .before .before .before .before .before .weights-of .ensures, c .before .before .before .before .before .before .low-modes .ensures, c .before .before .before .before .before .before .before .mode-base .ensures, c .before .before .before .before .before .before .before .before .parts-of .ensures, c .before .before .before .before .before .before .before .before .before .d-of .ensures, c .before .before .before .before .before .before .before .before .before .before .h-of .ensures, c .before .before .before .before .before .before .before .before .before .before .before .r-of .ensures, c .before .before .before .before .before .before .before .before .before .before .before .before .grid-of .ensures)
+returns c = simp (c .range-bits .ensures, c .before .weights-of .ensures, c .before .before .read-partitions .ensures, c .before .before .before .d-of .ensures, c .before .before .before .before .h-of .ensures, c .before .before .before .before .before .r-of .ensures, c .before .before .before .before .before .before .grid-of .ensures)
 
 pub read-config-spec : {M : Type 1} → statement M
 read-config-spec =
@@ -73,13 +55,7 @@ read-config-spec =
     add-range
     d-of-requires
     add-planes
-    parts-of-requires
-    mode-base-requires
-    low-modes-requires
+    read-partitions-requires
     weights-of-requires
-    number-of-requires
-    values-of-requires
-    low-len-requires
-    mode-bits-requires
     range-bits-requires
     returns)

@@ -8,7 +8,6 @@ use native.Mathlib.Nat.{mul-le-mul}
 use native.Mathlib.Omega.{arith}
 use Rattle.params_rules.specs.Rules.{weights}
 use Rattle.params_rules.specs.RuleLaws.{on-width, on-height, on-many, on-few, on-long, on-planes, on-ends, on-ends-dual}
-use borrow.Author.Needs.{needs}
 use Rattle.params_rules.proofs.judge.Statement.{statement}
 use Rattle.params_rules.proofs.judge.Tie as tie
 
