@@ -4,6 +4,8 @@ use mathlib.Core.Bool.{cond, _&&_}
 use Prim.Native.Nat.{ℕ, _+_, _-_, _*_, _/_, _%_, _^_}
 use lib.Bits.{bitXor}
 use lib.Dec.{eqb, leb, ltb}
+use Rattle.footprint.specs.Footprints.{texelsOf}
+use Rattle.footprint.specs.declared.Footprint.{Footprint}
 
 -- ---- the hash, over whole numbers below 2 ^ 32: sums and differences are taken modulo 2 ^ 32
 abbrev pub xorDown : ℕ → ℕ → ℕ
@@ -61,9 +63,9 @@ select seed parts x y =
     (cond (ltb parts 4) 0 (ramp seed parts 3 x y))
 
 -- footprints of under 31 texels double the coordinates
-abbrev pub scaleOf : ℕ → ℕ → ℕ
-scaleOf bw bh = cond (ltb (bw * bh) 31) 2 1
+abbrev pub scaleOf : Footprint → ℕ
+scaleOf f = cond (ltb (texelsOf f) 31) 2 1
 
 -- the partition of texel i of a footprint, row by row
-unfoldable pub partitionAt : ℕ → ℕ → ℕ → ℕ → ℕ → ℕ
-partitionAt number parts bw bh i = select (seedOf number parts) parts (scaleOf bw bh * (i % bw)) (scaleOf bw bh * (i / bw))
+unfoldable pub partitionAt : ℕ → ℕ → Footprint → ℕ → ℕ
+partitionAt number parts f i = select (seedOf number parts) parts (scaleOf f * (i % f .width)) (scaleOf f * (i / f .width))

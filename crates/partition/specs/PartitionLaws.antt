@@ -15,8 +15,11 @@ use Rattle.laws.specs.Numbers.{choice}
 use mathlib.Core.List.{List}
 use Rattle.laws.specs.Lists.{texels, put, putAt, put-row, put-same}
 use Rattle.partition.specs.Partition.{xorDown, xorUp, addUp, subUp, hash52, seedOf, byBit, byCount, shiftX, shiftY, factor, ramp, largest, select, scaleOf, partitionAt}
-use Rattle.partition.specs.Ramps.{Gentle, Sides, RampOf, movedTo, inRowOfTwo, inRowOfFour, rampAt, ofTwo, ofFour}
+use Rattle.partition.specs.Ramps.{Gentle, RampOf, movedTo, inRowOfTwo, inRowOfFour, rampAt, ofTwo, ofFour, selectAt}
 use Rattle.partition.specs.declared.Ramp.{Ramp}
+use Rattle.footprint.specs.Footprints.{texelsOf, mostTexels}
+use Rattle.footprint.specs.Sides.{Sides}
+use Rattle.footprint.specs.declared.Footprint.{Footprint}
 
 -- ---- the hash
 pub hash-steps : (p b c d f : ℕ) → b ≡ subUp 17 (xorDown 15 p) → c ≡ addUp 7 b → d ≡ addUp 4 c → f ≡ addUp 16 (xorDown 5 d)
@@ -98,12 +101,12 @@ below-two : (a b : ℕ) → largest a b 0 0 < 2
 unfolding largest
 below-two a b = rw (le-leb 0 b (omega arith)) (choice (leb b a && (leb 0 a && leb 0 a)) 0 1 (omega arith) (omega arith))
 
-pub partition-below : (number parts bw bh i : ℕ) → 2 ≤ parts → parts ≤ 4 → partitionAt number parts bw bh i < parts
+pub partition-below : (number parts : ℕ) (f : Footprint) (i : ℕ) → 2 ≤ parts → parts ≤ 4 → partitionAt number parts f i < parts
 unfolding partitionAt select
-partition-below number parts bw bh i l h = go (decLt parts 3) (decLt parts 4)
+partition-below number parts f i l h = go (decLt parts 3) (decLt parts 4)
   where
     r : ℕ → ℕ
-    r k = ramp (seedOf number parts) parts k (scaleOf bw bh * (i % bw)) (scaleOf bw bh * (i / bw))
+    r k = ramp (seedOf number parts) parts k (scaleOf f * (i % f .width)) (scaleOf f * (i / f .width))
 
     go : Dec (parts < 3) → Dec (parts < 4) → largest (r 0) (r 1) (cond (ltb parts 3) 0 (r 2)) (cond (ltb parts 4) 0 (r 3)) < parts
     go (yes p) q = rw (lt-ltb parts 3 p, lt-ltb parts 4 (omega arith)) (omega (arith, below-two (r 0) (r 1)))
@@ -195,35 +198,48 @@ four-turn a b c d m n p q w y s t u l em en ep eq et eu =
 pub moved-gentle : (k m : Ramp) (t : ℕ) → m ≡ movedTo k t → Gentle k → Gentle m
 moved-gentle k m t e g = rw e (record { start = omega arith; along = g .along; down = g .down })
 
--- rows of a footprint stay within 144 places
-pub row-fits : (bw bh t : ℕ) → Sides bw bh → t < bh → bw * t + bw ≤ 144
-row-fits bw bh t s h =
-    let u : t + 1 ≤ 12 = omega arith in
-    let m : bw * (t + 1) ≤ 144 = mul-le-mul (s .width) u in
-    omega (arith, mul-add bw t 1, mul-one bw)
+-- the rows of a footprint stay within the texels of the largest
+pub row-fits : (f : Footprint) (t : ℕ) → Sides f → t < f .height → f .width * t + f .width ≤ mostTexels
+row-fits f t s h =
+    let u : t + 1 ≤ 12 = omega (arith, s .height) in
+    let m : f .width * (t + 1) ≤ mostTexels = mul-le-mul (s .width) u in
+    omega (arith, mul-add (f .width) t 1, mul-one (f .width))
 
 -- ---- the whole
 flat-zero : (s t : ℕ) → rampAt (record { start = 0; along = 0; down = 0 }) s t ≡ 0
 flat-zero s t = rw (zero-mul t, zero-mul s)
 
-module _ (number parts bw bh scale : ℕ) (s u : List ℕ) (es : scale ≡ scaleOf bw bh) where
-  pub of-two : (a b : Ramp) → parts ≡ 2 → RampOf (seedOf number parts) parts 0 scale a → RampOf (seedOf number parts) parts 1 scale b
-      → u ≡ put (texels (ofTwo a b) bw) 0 (bw * bh) s → u ≡ put (partitionAt number parts bw bh) 0 (bw * bh) s
-  unfolding ofTwo partitionAt select
-  of-two a b e ra rb q =
-      q ∙ put-same _ _ 0 (bw * bh) s
-      (λ k l h. rw (lt-ltb parts 3 (omega arith), lt-ltb parts 4 (omega arith), ra .value (k % bw) (k / bw), rb .value (k % bw) (k / bw), es))
+pub flat-gentle : Gentle (record { start = 0; along = 0; down = 0 })
+flat-gentle = record { start = omega arith; along = omega arith; down = omega arith }
 
-  pub of-three : (a b c : Ramp) → parts ≡ 3 → RampOf (seedOf number parts) parts 0 scale a → RampOf (seedOf number parts) parts 1 scale b → RampOf (seedOf number parts) parts 2 scale c
-      → u ≡ put (texels (ofFour a b c (record { start = 0; along = 0; down = 0 })) bw) 0 (bw * bh) s → u ≡ put (partitionAt number parts bw bh) 0 (bw * bh) s
-  unfolding ofFour partitionAt select
-  of-three a b c e ra rb rc q =
-      q ∙ put-same _ _ 0 (bw * bh) s
-      (λ k l h. rw (le-ltb parts 3 (omega arith), lt-ltb parts 4 (omega arith), ra .value (k % bw) (k / bw), rb .value (k % bw) (k / bw), rc .value (k % bw) (k / bw), flat-zero (k % bw) (k / bw), es))
+module _ (seed scale : ℕ) (f : Footprint) (s u : List ℕ) where
+  pub of-two : (a b : Ramp) → RampOf seed 2 0 scale a → RampOf seed 2 1 scale b → u ≡ put (texels (ofTwo a b) (f .width)) 0 (texelsOf f) s
+      → u ≡ put (selectAt seed 2 scale f) 0 (texelsOf f) s
+  unfolding ofTwo select
+  of-two a b ra rb q =
+      q ∙ put-same _ _ 0 (texelsOf f) s (λ k l h. rw (ra .value (k % f .width) (k / f .width), rb .value (k % f .width) (k / f .width)))
 
-  pub of-four : (a b c d : Ramp) → 4 ≤ parts → RampOf (seedOf number parts) parts 0 scale a → RampOf (seedOf number parts) parts 1 scale b → RampOf (seedOf number parts) parts 2 scale c
-      → RampOf (seedOf number parts) parts 3 scale d → u ≡ put (texels (ofFour a b c d) bw) 0 (bw * bh) s → u ≡ put (partitionAt number parts bw bh) 0 (bw * bh) s
-  unfolding ofFour partitionAt select
-  of-four a b c d e ra rb rc rd q =
-      q ∙ put-same _ _ 0 (bw * bh) s
-      (λ k l h. rw (le-ltb parts 3 (omega arith), le-ltb parts 4 (omega arith), ra .value (k % bw) (k / bw), rb .value (k % bw) (k / bw), rc .value (k % bw) (k / bw), rd .value (k % bw) (k / bw), es))
+  pub of-three : (a b c : Ramp) → RampOf seed 3 0 scale a → RampOf seed 3 1 scale b → RampOf seed 3 2 scale c
+      → u ≡ put (texels (ofFour a b c (record { start = 0; along = 0; down = 0 })) (f .width)) 0 (texelsOf f) s → u ≡ put (selectAt seed 3 scale f) 0 (texelsOf f) s
+  unfolding ofFour select
+  of-three a b c ra rb rc q =
+      q ∙ put-same _ _ 0 (texelsOf f) s
+      (λ k l h. rw (ra .value (k % f .width) (k / f .width), rb .value (k % f .width) (k / f .width), rc .value (k % f .width) (k / f .width), flat-zero (k % f .width) (k / f .width)))
+
+  pub of-four : (a b c d : Ramp) → RampOf seed 4 0 scale a → RampOf seed 4 1 scale b → RampOf seed 4 2 scale c → RampOf seed 4 3 scale d
+      → u ≡ put (texels (ofFour a b c d) (f .width)) 0 (texelsOf f) s → u ≡ put (selectAt seed 4 scale f) 0 (texelsOf f) s
+  unfolding ofFour select
+  of-four a b c d ra rb rc rd q =
+      q ∙ put-same _ _ 0 (texelsOf f) s
+      (λ k l h. rw (ra .value (k % f .width) (k / f .width), rb .value (k % f .width) (k / f .width), rc .value (k % f .width) (k / f .width), rd .value (k % f .width) (k / f .width)))
+
+-- an arm of the choice by the count
+pub of-count : (number parts count scale : ℕ) (f : Footprint) (s u : List ℕ) → scale ≡ scaleOf f → parts ≡ count
+    → u ≡ put (selectAt (seedOf number parts) count scale f) 0 (texelsOf f) s → u ≡ put (partitionAt number parts f) 0 (texelsOf f) s
+unfolding partitionAt
+of-count number parts count scale f s u es e q =
+    q ∙ ap (λ (n : ℕ). put (selectAt (seedOf number parts) n scale f) 0 (texelsOf f) s) (sym e) ∙ ap (λ (n : ℕ). put (selectAt (seedOf number parts) parts n f) 0 (texelsOf f) s) es
+
+-- a count that is neither two nor three
+pub last-count : (parts : ℕ) → 2 ≤ parts → parts ≤ 4 → (parts ≡ 2 → ⊥) → (parts ≡ 3 → ⊥) → parts ≡ 4
+last-count parts l h p q = omega arith

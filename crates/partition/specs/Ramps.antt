@@ -1,8 +1,9 @@
 -- A ramp as the code holds it, and the partition of a texel by two ramps or by four.
 -- Assumes nothing.
 use mathlib.Core.Path.{_≡_}
-use Prim.Native.Nat.{ℕ, _+_, _*_, _%_, _≤_, _<_}
-use Rattle.partition.specs.Partition.{ramp, largest}
+use Prim.Native.Nat.{ℕ, _+_, _*_, _/_, _%_, _≤_, _<_}
+use Rattle.footprint.specs.declared.Footprint.{Footprint}
+use Rattle.partition.specs.Partition.{ramp, largest, select}
 use Rattle.partition.specs.declared.Ramp.{Ramp}
 
 -- no sum over a footprint leaves 16 bits
@@ -10,12 +11,6 @@ pub record Gentle (k : Ramp) : Type 0 where
   pub start : k .start < 64
   pub along : k .along ≤ 28
   pub down : k .down ≤ 28
-
--- a footprint that the record of a block holds
-pub record Sides (bw bh : ℕ) : Type 0 where
-  pub some : 0 < bw
-  pub width : bw ≤ 12
-  pub height : bh ≤ 12
 
 -- the ramp's value at the start of row t
 abbrev pub atRow : Ramp → ℕ → ℕ
@@ -51,3 +46,7 @@ ofFour a b c d s t = largest (rampAt a s t) (rampAt b s t) (rampAt c s t) (rampA
 pub record RampOf (seed parts i scale : ℕ) (k : Ramp) : Type 0 where
   pub gentle : Gentle k
   pub value : (s t : ℕ) → rampAt k s t ≡ ramp seed parts i (scale * s) (scale * t)
+
+-- the partition of texel i of a footprint, row by row, over coordinates times scale
+abbrev pub selectAt : ℕ → ℕ → ℕ → Footprint → ℕ → ℕ
+selectAt seed parts scale f i = select seed parts (scale * (i % f .width)) (scale * (i / f .width))

@@ -3,7 +3,11 @@ ghost use mathlib.Core.Path.{_≡_};
 ghost use Prim.Native.Nat.{_+_, _*_, _≤_, _<_, max};
 ghost use Rattle.laws.specs.Lists.{put, putAt, texels};
 ghost use Rattle.partition.specs.Partition.{hash52, byBit, byCount, shiftX, shiftY, factor, largest, scaleOf, partitionAt};
-ghost use Rattle.partition.specs.Ramps.{Gentle, Sides, RampOf, movedTo, inRow, inRowOfTwo, inRowOfFour, ofTwo, ofFour};
+ghost use Rattle.footprint.specs.Footprints.{texelsOf, mostTexels};
+ghost use Rattle.footprint.specs.Sides.{Sides};
+ghost use Rattle.partition.specs.Ramps.{Gentle, RampOf, movedTo, inRow, inRowOfTwo, inRowOfFour, ofTwo, ofFour, selectAt};
+use footprint::Footprint;
+use footprint::TEXELS;
 
 // A ramp over a footprint: its value at the first texel, and its slopes along a row and down a column.
 pub struct Ramp {
@@ -105,24 +109,26 @@ fn larger_of_two(a: u16, b: u16) -> u8
     if a < b { 1 } else { 0 }
 }
 
-fn row_of_two(out: &mut [u8; 144], o: usize, bw: usize, a: Ramp, b: Ramp)
-    requires { ⌜ (Gentle a) × ((Gentle b) × ((o + bw ≤ 144) × (bw ≤ 12))) ⌝ }
-    ensures { λ r. ⌜ now (out .exit) ≡ putAt (inRowOfTwo a b) o bw (now (out .entry)) ⌝ }
+fn row_of_two(out: &mut [u8; TEXELS], o: usize, width: usize, a: Ramp, b: Ramp)
+    requires { ⌜ (Gentle a) × ((Gentle b) × ((o + width ≤ mostTexels) × (width ≤ 12))) ⌝ }
+    ensures { λ r. ⌜ now (out .exit) ≡ putAt (inRowOfTwo a b) o width (now (out .entry)) ⌝ }
 {
     let mut s = 0;
-    while s < bw {
+    while s < width {
         out[o + s] = larger_of_two(in_row(a, s), in_row(b, s));
         s += 1;
     }
 }
 
-fn two(out: &mut [u8; 144], a: Ramp, b: Ramp, bw: usize, bh: usize)
-    requires { ⌜ (Gentle a) × ((Gentle b) × (Sides bw bh)) ⌝ }
-    ensures { λ r. ⌜ now (out .exit) ≡ put (texels (ofTwo a b) bw) 0 (bw * bh) (now (out .entry)) ⌝ }
+fn two(out: &mut [u8; TEXELS], a: Ramp, b: Ramp, f: Footprint)
+    requires { ⌜ (Gentle a) × ((Gentle b) × (Sides f)) ⌝ }
+    ensures { λ r. ⌜ now (out .exit) ≡ put (texels (ofTwo a b) (f .width)) 0 (texelsOf f) (now (out .entry)) ⌝ }
 {
+    let width = f.width;
+    let height = f.height;
     let mut t = 0;
-    while t < bh {
-        row_of_two(out, bw * t, bw, moved(a, t), moved(b, t));
+    while t < height {
+        row_of_two(out, width * t, width, moved(a, t), moved(b, t));
         t += 1;
     }
 }
@@ -144,27 +150,29 @@ fn largest_of_four(a: u16, b: u16, c: u16, d: u16) -> u8
     }
 }
 
-fn row_of_four(out: &mut [u8; 144], o: usize, bw: usize, a: Ramp, b: Ramp, c: Ramp, d: Ramp)
-    requires { ⌜ (Gentle a) × ((Gentle b) × ((Gentle c) × ((Gentle d) × ((o + bw ≤ 144) × (bw ≤ 12))))) ⌝ }
-    ensures { λ r. ⌜ now (out .exit) ≡ putAt (inRowOfFour a b c d) o bw (now (out .entry)) ⌝ }
+fn row_of_four(out: &mut [u8; TEXELS], o: usize, width: usize, a: Ramp, b: Ramp, c: Ramp, d: Ramp)
+    requires { ⌜ (Gentle a) × ((Gentle b) × ((Gentle c) × ((Gentle d) × ((o + width ≤ mostTexels) × (width ≤ 12))))) ⌝ }
+    ensures { λ r. ⌜ now (out .exit) ≡ putAt (inRowOfFour a b c d) o width (now (out .entry)) ⌝ }
 {
     let mut s = 0;
-    while s < bw {
+    while s < width {
         out[o + s] = largest_of_four(in_row(a, s), in_row(b, s), in_row(c, s), in_row(d, s));
         s += 1;
     }
 }
 
-fn four(out: &mut [u8; 144], a: Ramp, b: Ramp, c: Ramp, d: Ramp, bw: usize, bh: usize)
-    requires { ⌜ (Gentle a) × ((Gentle b) × ((Gentle c) × ((Gentle d) × (Sides bw bh)))) ⌝ }
-    ensures { λ r. ⌜ now (out .exit) ≡ put (texels (ofFour a b c d) bw) 0 (bw * bh) (now (out .entry)) ⌝ }
+fn four(out: &mut [u8; TEXELS], a: Ramp, b: Ramp, c: Ramp, d: Ramp, f: Footprint)
+    requires { ⌜ (Gentle a) × ((Gentle b) × ((Gentle c) × ((Gentle d) × (Sides f)))) ⌝ }
+    ensures { λ r. ⌜ now (out .exit) ≡ put (texels (ofFour a b c d) (f .width)) 0 (texelsOf f) (now (out .entry)) ⌝ }
 {
+    let width = f.width;
+    let height = f.height;
     let mut t = 0;
-    while t < bh {
+    while t < height {
         row_of_four(
             out,
-            bw * t,
-            bw,
+            width * t,
+            width,
             moved(a, t),
             moved(b, t),
             moved(c, t),
@@ -174,34 +182,72 @@ fn four(out: &mut [u8; 144], a: Ramp, b: Ramp, c: Ramp, d: Ramp, bw: usize, bh: 
     }
 }
 
-fn scale_of(bw: usize, bh: usize) -> u16
-    requires { ⌜ Sides bw bh ⌝ }
-    ensures { λ r. ⌜ (r ≡ scaleOf bw bh) × (r ≤ 2) ⌝ }
+fn scale_of(f: Footprint) -> u16
+    requires { ⌜ Sides f ⌝ }
+    ensures { λ r. ⌜ (r ≡ scaleOf f) × (r ≤ 2) ⌝ }
 {
-    if bw * bh < 31 { 2 } else { 1 }
+    if f.width * f.height < 31 { 2 } else { 1 }
+}
+
+// Two partitions, by the ramps of the hash r of a seed.
+fn put_two(out: &mut [u8; TEXELS], r: u32, seed: u32, scale: u16, f: Footprint)
+    requires { ⌜ (r ≡ hash52 seed) × ((scale ≤ 2) × (Sides f)) ⌝ }
+    ensures { λ _. ⌜ now (out .exit) ≡ put (selectAt seed 2 scale f) 0 (texelsOf f) (now (out .entry)) ⌝ }
+{
+    two(
+        out,
+        ramp_of(r, seed, 2, 0, scale),
+        ramp_of(r, seed, 2, 1, scale),
+        f,
+    )
+}
+
+// Three partitions: the fourth ramp is flat.
+fn put_three(out: &mut [u8; TEXELS], r: u32, seed: u32, scale: u16, f: Footprint)
+    requires { ⌜ (r ≡ hash52 seed) × ((scale ≤ 2) × (Sides f)) ⌝ }
+    ensures { λ _. ⌜ now (out .exit) ≡ put (selectAt seed 3 scale f) 0 (texelsOf f) (now (out .entry)) ⌝ }
+{
+    let flat = Ramp {
+        start: 0,
+        along: 0,
+        down: 0,
+    };
+    four(
+        out,
+        ramp_of(r, seed, 3, 0, scale),
+        ramp_of(r, seed, 3, 1, scale),
+        ramp_of(r, seed, 3, 2, scale),
+        flat,
+        f,
+    )
+}
+
+// Four partitions.
+fn put_four(out: &mut [u8; TEXELS], r: u32, seed: u32, scale: u16, f: Footprint)
+    requires { ⌜ (r ≡ hash52 seed) × ((scale ≤ 2) × (Sides f)) ⌝ }
+    ensures { λ _. ⌜ now (out .exit) ≡ put (selectAt seed 4 scale f) 0 (texelsOf f) (now (out .entry)) ⌝ }
+{
+    four(
+        out,
+        ramp_of(r, seed, 4, 0, scale),
+        ramp_of(r, seed, 4, 1, scale),
+        ramp_of(r, seed, 4, 2, scale),
+        ramp_of(r, seed, 4, 3, scale),
+        f,
+    )
 }
 
 // Puts the partition of each texel of a footprint, row by row. The hash and the ramps are worked out once a block.
-pub fn select_partition(out: &mut [u8; 144], number: u32, parts: usize, bw: usize, bh: usize)
-    requires { ⌜ (number < 1024) × (((2 ≤ parts) × (parts ≤ 4)) × (Sides bw bh)) ⌝ }
-    ensures { λ r. ⌜ now (out .exit) ≡ put (partitionAt number parts bw bh) 0 (bw * bh) (now (out .entry)) ⌝ }
+pub fn select_partition(out: &mut [u8; TEXELS], number: u32, parts: usize, f: Footprint)
+    requires { ⌜ (number < 1024) × (((2 ≤ parts) × (parts ≤ 4)) × (Sides f)) ⌝ }
+    ensures { λ _. ⌜ now (out .exit) ≡ put (partitionAt number parts f) 0 (texelsOf f) (now (out .entry)) ⌝ }
 {
     let seed = number + 1024 * (parts as u32 - 1);
     let r = hash(seed);
-    let scale = scale_of(bw, bh);
-    let a = ramp_of(r, seed, parts, 0, scale);
-    let b = ramp_of(r, seed, parts, 1, scale);
-    if parts == 2 {
-        return two(out, a, b, bw, bh);
+    let scale = scale_of(f);
+    match parts {
+        2 => put_two(out, r, seed, scale, f),
+        3 => put_three(out, r, seed, scale, f),
+        _ => put_four(out, r, seed, scale, f),
     }
-    let c = ramp_of(r, seed, parts, 2, scale);
-    if parts == 3 {
-        let flat = Ramp {
-            start: 0,
-            along: 0,
-            down: 0,
-        };
-        return four(out, a, b, c, flat, bw, bh);
-    }
-    four(out, a, b, c, ramp_of(r, seed, parts, 3, scale), bw, bh)
 }

@@ -10,16 +10,16 @@ use Rattle.partition.proofs.four.Statement.{statement}
 use Rattle.partition.proofs.four.Tie as tie
 
 abbrev Inv-loop : tie.InvT-loop
-Inv-loop out₀ a b c d bw bh t₀ out t = (t ≤ bh) × (out ≡ put (texels (ofFour a b c d) bw) 0 (bw * t) out₀)
+Inv-loop out₀ a b c d width height t₀ out t = (t ≤ height) × (out ≡ put (texels (ofFour a b c d) width) 0 (width * t) out₀)
 
 abbrev μ-loop : tie.MeasureT-loop
-μ-loop out₀ a b c d bw bh t₀ out t = bh - t
+μ-loop out₀ a b c d width height t₀ out t = height - t
 
 loop-holds : tie.Need-loop-holds Inv-loop μ-loop
 loop-holds c = (omega arith, put-rows _ _ _)
 
 mul-row-of-four : tie.Need-mul-row-of-four Inv-loop μ-loop
-mul-row-of-four c = omega (arith, row-fits (c .before .before .before .args .bw) (c .before .before .before .args .bh) (c .before .before .loop .t) (c .before .before .before .pre .1 .1 .1 .1) (c .before .loop-test .taken))
+mul-row-of-four c = omega (arith, row-fits (c .before .before .before .args .f) (c .before .before .loop .t) (c .before .before .before .pre .1 .1 .1 .1) (c .before .loop-test .taken))
 
 moved-requires : tie.Need-moved-requires Inv-loop μ-loop
 moved-requires c κs = search needs
@@ -44,14 +44,14 @@ row-of-four-requires c κs =
           moved-gentle (s .args .c) _ t (c .before .moved3 .ensures) (s .pre .1 .1 .0),
           (
             moved-gentle (s .args .d) _ t (c .moved4 .ensures) (s .pre .1 .1 .1 .0),
-            (row-fits (s .args .bw) (s .args .bh) t (s .pre .1 .1 .1 .1) (c .before .before .before .before .before .loop-test .taken), s .pre .1 .1 .1 .1 .width),
+            (row-fits (s .args .f) t (s .pre .1 .1 .1 .1) (c .before .before .before .before .before .loop-test .taken), s .pre .1 .1 .1 .1 .width),
           ),
         ),
       ),
     )
 
 add-t : tie.Need-add-t Inv-loop μ-loop
-add-t c = omega arith
+add-t c = omega (arith, c .before .before .before .before .before .before .before .before .pre .1 .1 .1 .1 .height)
 
 loop-less : tie.Need-loop-less Inv-loop μ-loop
 loop-less c = omega arith
@@ -61,12 +61,12 @@ loop-again c =
     let s = c .before .before .before .before .before .before .before .before in
     let l = c .before .before .before .before .before .before .before .loop in (
       omega arith,
-      four-turn (s .args .a) (s .args .b) (s .args .c) (s .args .d) _ _ _ _ (s .args .bw) (l .t) _ _ _ (s .pre .1 .1 .1 .1 .some)
+      four-turn (s .args .a) (s .args .b) (s .args .c) (s .args .d) _ _ _ _ (s .args .f .width) (l .t) _ _ _ (s .pre .1 .1 .1 .1 .column)
           (c .before .before .before .before .moved .ensures) (c .before .before .before .moved2 .ensures) (c .before .before .moved3 .ensures) (c .before .moved4 .ensures) (l .inv .1) (c .row-of-four .ensures),
     )
 
 returns : tie.Need-returns Inv-loop μ-loop
-returns c = let e : c .before .loop .t ≡ c .before .before .args .bh = omega arith in rw e at (c .before .loop .inv .1)
+returns c = let e : c .before .loop .t ≡ c .before .before .args .f .height = omega arith in rw e at (c .before .loop .inv .1)
 
 pub four-spec : {M : Type 1} → statement M
 four-spec =

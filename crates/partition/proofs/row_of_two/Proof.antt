@@ -9,10 +9,10 @@ use Rattle.partition.proofs.row_of_two.Statement.{statement}
 use Rattle.partition.proofs.row_of_two.Tie as tie
 
 abbrev Inv-loop : tie.InvT-loop
-Inv-loop out₀ o bw a b s₀ out s = (s ≤ bw) × (out ≡ putAt (inRowOfTwo a b) o s out₀)
+Inv-loop out₀ o width a b s₀ out s = (s ≤ width) × (out ≡ putAt (inRowOfTwo a b) o s out₀)
 
 abbrev μ-loop : tie.MeasureT-loop
-μ-loop out₀ o bw a b s₀ out s = bw - s
+μ-loop out₀ o width a b s₀ out s = width - s
 
 loop-holds : tie.Need-loop-holds Inv-loop μ-loop
 loop-holds c = (omega arith, putAt-none _ _ _)
@@ -44,7 +44,7 @@ loop-again c =
     (omega arith, putAt-turn _ _ (l .s) _ _ (l .out) (l .inv .1) (rw (c .before .before .in-row .ensures, c .before .in-row2 .ensures) at (c .larger-of-two .ensures)))
 
 returns : tie.Need-returns Inv-loop μ-loop
-returns c = let e : c .before .loop .s ≡ c .before .before .args .bw = omega arith in rw e at (c .before .loop .inv .1)
+returns c = let e : c .before .loop .s ≡ c .before .before .args .width = omega arith in rw e at (c .before .loop .inv .1)
 
 pub row-of-two-spec : {M : Type 1} → statement M
 row-of-two-spec =

@@ -1,13 +1,12 @@
 -- `partition::scale_of` meets its contract by its test. Assumes nothing.
 use borrow.Author.Tests.{lt-ltb, le-ltb}
-use native.Mathlib.Nat.{mul-le-mul}
 use mathlib.Core.Path.{sym}
 use native.Mathlib.Omega.{arith}
 use Rattle.partition.proofs.scale_of.Statement.{statement}
 use Rattle.partition.proofs.scale_of.Tie as tie
 
 mul-if1 : tie.Need-mul-if1
-mul-if1 c = omega (arith, mul-le-mul (c .pre .width) (c .pre .height))
+mul-if1 c = omega (arith, c .before .pre .texels)
 
 returns : tie.Need-returns
 returns c = (sym (simp (lt-ltb _ _ (c .if1 .taken))), omega arith)

@@ -1,7 +1,6 @@
--- `partition::select_partition` meets its contract: the ramps are those of the definition, for two, three and four partitions. Assumes nothing.
-use Rattle.partition.specs.PartitionLaws.{of-two, of-three, of-four}
-use native.Mathlib.Omega.{arith}
+-- Each arm has the promise of its count; the last is left where the count is neither two nor three.
 use borrow.Author.Needs.{needs}
+use Rattle.partition.specs.PartitionLaws.{of-count, last-count}
 use Rattle.partition.proofs.select_partition.Statement.{statement}
 use Rattle.partition.proofs.select_partition.Tie as tie
 
@@ -18,48 +17,33 @@ add-seed : tie.Need-add-seed
 add-seed c = search needs
 
 hash-requires : tie.Need-hash-requires
-hash-requires c κs = search needs
+hash-requires c κs = tt
 
 scale-of-requires : tie.Need-scale-of-requires
-scale-of-requires c κs = search needs
+scale-of-requires c κs = c .before .pre .1 .1
 
-ramp-of-requires : tie.Need-ramp-of-requires
-ramp-of-requires c κs = search needs
+put-two-requires : tie.Need-put-two-requires
+put-two-requires c κs = (c .before .before .before .hash .ensures, (c .before .before .scale-of .ensures .1, c .before .before .before .before .pre .1 .1))
 
-ramp-of-requires-2 : tie.Need-ramp-of-requires-2
-ramp-of-requires-2 c κs = search needs
+put-three-requires : tie.Need-put-three-requires
+put-three-requires c κs = (c .before .before .before .hash .ensures, (c .before .before .scale-of .ensures .1, c .before .before .before .before .pre .1 .1))
 
-two-requires : tie.Need-two-requires
-two-requires c κs = search needs
+put-four-requires : tie.Need-put-four-requires
+put-four-requires c κs = (c .before .before .before .hash .ensures, (c .before .before .scale-of .ensures .1, c .before .before .before .before .pre .1 .1))
 
 returns : tie.Need-returns
-returns c =
-    let s = c .before .before .before .before .before .before .before in
-    of-two (s .args .number) (s .args .parts) (s .args .bw) (s .args .bh) _ _ _ (c .before .before .before .before .before .scale-of .ensures .0) _ _ (omega arith) (c .before .before .before .before .ramp-of .ensures) (c .before .before .before .ramp-of2 .ensures) (c .two .ensures)
-
-ramp-of-requires-3 : tie.Need-ramp-of-requires-3
-ramp-of-requires-3 c κs = search needs
-
-four-requires : tie.Need-four-requires
-four-requires c κs = search needs
+returns c = let s = c .before .before .before .before .before in
+    of-count (s .args .number) (s .args .parts) 2 _ (s .args .f) _ _ (c .before .before .before .scale-of .ensures .0) (c .before .before .match .keys1) (c .put-two .ensures)
 
 returns-2 : tie.Need-returns-2
-returns-2 c =
-    let s = c .before .before .before .before .before .before .before .before .before in
-    of-three (s .args .number) (s .args .parts) (s .args .bw) (s .args .bh) _ _ _ (c .before .before .before .before .before .before .before .scale-of .ensures .0) _ _ _ (omega arith)
-    (c .before .before .before .before .before .before .ramp-of .ensures) (c .before .before .before .before .before .ramp-of2 .ensures) (c .before .before .before .ramp-of3 .ensures) (c .four .ensures)
-
-ramp-of-requires-4 : tie.Need-ramp-of-requires-4
-ramp-of-requires-4 c κs = search needs
-
-four-requires-2 : tie.Need-four-requires-2
-four-requires-2 c κs = search needs
+returns-2 c = let s = c .before .before .before .before .before in
+    of-count (s .args .number) (s .args .parts) 3 _ (s .args .f) _ _ (c .before .before .before .scale-of .ensures .0) (c .before .before .match .keys2) (c .put-three .ensures)
 
 returns-3 : tie.Need-returns-3
-returns-3 c =
-    let s = c .before .before .before .before .before .before .before .before .before .before in
-    of-four (s .args .number) (s .args .parts) (s .args .bw) (s .args .bh) _ _ _ (c .before .before .before .before .before .before .before .before .scale-of .ensures .0) _ _ _ _ (omega arith)
-    (c .before .before .before .before .before .before .before .ramp-of .ensures) (c .before .before .before .before .before .before .ramp-of2 .ensures) (c .before .before .before .before .ramp-of3 .ensures) (c .before .ramp-of4 .ensures) (c .four2 .ensures)
+returns-3 c = let s = c .before .before .before .before .before in
+    let r = c .before .before .match .rest in
+    of-count (s .args .number) (s .args .parts) 4 _ (s .args .f) _ _ (c .before .before .before .scale-of .ensures .0) (last-count (s .args .parts) (s .pre .1 .0 .0) (s .pre .1 .0 .1) (r .0 .1) (r .1))
+    (c .put-four .ensures)
 
 pub select-partition-spec : {M : Type 1} → statement M
 select-partition-spec =
@@ -71,13 +55,9 @@ select-partition-spec =
     add-seed
     hash-requires
     scale-of-requires
-    ramp-of-requires
-    ramp-of-requires-2
-    two-requires
+    put-two-requires
+    put-three-requires
+    put-four-requires
     returns
-    ramp-of-requires-3
-    four-requires
     returns-2
-    ramp-of-requires-4
-    four-requires-2
     returns-3)

@@ -10,16 +10,16 @@ use Rattle.partition.proofs.two.Statement.{statement}
 use Rattle.partition.proofs.two.Tie as tie
 
 abbrev Inv-loop : tie.InvT-loop
-Inv-loop out₀ a b bw bh t₀ out t = (t ≤ bh) × (out ≡ put (texels (ofTwo a b) bw) 0 (bw * t) out₀)
+Inv-loop out₀ a b width height t₀ out t = (t ≤ height) × (out ≡ put (texels (ofTwo a b) width) 0 (width * t) out₀)
 
 abbrev μ-loop : tie.MeasureT-loop
-μ-loop out₀ a b bw bh t₀ out t = bh - t
+μ-loop out₀ a b width height t₀ out t = height - t
 
 loop-holds : tie.Need-loop-holds Inv-loop μ-loop
 loop-holds c = (omega arith, put-rows _ _ _)
 
 mul-row-of-two : tie.Need-mul-row-of-two Inv-loop μ-loop
-mul-row-of-two c = omega (arith, row-fits (c .before .before .before .args .bw) (c .before .before .before .args .bh) (c .before .before .loop .t) (c .before .before .before .pre .1 .1) (c .before .loop-test .taken))
+mul-row-of-two c = omega (arith, row-fits (c .before .before .before .args .f) (c .before .before .loop .t) (c .before .before .before .pre .1 .1) (c .before .loop-test .taken))
 
 moved-requires : tie.Need-moved-requires Inv-loop μ-loop
 moved-requires c κs = search needs
@@ -34,7 +34,7 @@ row-of-two-requires c κs =
       moved-gentle (s .args .a) _ t (c .before .moved .ensures) (s .pre .0),
       (
         moved-gentle (s .args .b) _ t (c .moved2 .ensures) (s .pre .1 .0),
-        (row-fits (s .args .bw) (s .args .bh) t (s .pre .1 .1) (c .before .before .before .loop-test .taken), s .pre .1 .1 .width),
+        (row-fits (s .args .f) t (s .pre .1 .1) (c .before .before .before .loop-test .taken), s .pre .1 .1 .width),
       ),
     )
 
@@ -48,10 +48,10 @@ loop-again : tie.Need-loop-again Inv-loop μ-loop
 loop-again c =
     let s = c .before .before .before .before .before .before in
     let l = c .before .before .before .before .before .loop in
-    (omega arith, two-turn (s .args .a) (s .args .b) _ _ (s .args .bw) (l .t) _ _ _ (s .pre .1 .1 .some) (c .before .before .moved .ensures) (c .before .moved2 .ensures) (l .inv .1) (c .row-of-two .ensures))
+    (omega arith, two-turn (s .args .a) (s .args .b) _ _ (s .args .f .width) (l .t) _ _ _ (s .pre .1 .1 .column) (c .before .before .moved .ensures) (c .before .moved2 .ensures) (l .inv .1) (c .row-of-two .ensures))
 
 returns : tie.Need-returns Inv-loop μ-loop
-returns c = let e : c .before .loop .t ≡ c .before .before .args .bh = omega arith in rw e at (c .before .loop .inv .1)
+returns c = let e : c .before .loop .t ≡ c .before .before .args .f .height = omega arith in rw e at (c .before .loop .inv .1)
 
 pub two-spec : {M : Type 1} → statement M
 two-spec =
