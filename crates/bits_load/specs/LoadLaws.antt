@@ -2,10 +2,15 @@
 -- Assumes nothing.
 use mathlib.Core.Path.{_≡_}
 use mathlib.Core.List.{List}
-use Prim.Native.Nat.{ℕ, _+_, _*_, _^_}
+use Prim.Native.Nat.{ℕ, _+_, _*_, _^_, _<_}
 use native.Mathlib.Omega.{arith}
+use lib.Dec.{T, ltb, ltb→lt}
 use lib.ListN.{getD}
 use Rattle.bits.specs.Bits.{bytes}
+
+-- each of the sixteen is there
+pub byte-in : (n k : ℕ) → n ≡ 16 → T (ltb k 16) → k < n
+byte-in n k e t = rw e (ltb→lt k 16 t)
 
 -- the number of sixteen bytes, by the words of the first eight and the last eight
 abbrev wordAt : List ℕ → ℕ → ℕ

@@ -85,7 +85,7 @@ fn decode_any(out: &mut [u8; WEIGHTS], g: Grid, n: usize, q: usize, seq: &[u8; 7
     weights_infill::infill(out, g, n, &wv);
 }
 
-// Puts the weights of the texels into out, the first plane's from 0 on, the second's from 144 on; seq has the
+// Puts the weights of the texels into out, the first plane's from 0 on, the second's from TEXELS on; seq has the
 // grid's encoded weights, of range q.
 pub fn decode_weights(out: &mut [u8; WEIGHTS], g: Grid, q: usize, seq: &[u8; 72])
     requires { ⌜ Given g q (now seq) (now out) ⌝ }

@@ -19,7 +19,6 @@ use Rattle.weights_infill.specs.Fast.{leftOf, pairOf, lowOf, Pairs, spre
 use Rattle.weights_infill.specs.SpreadLaws.{at-row, spread-at}
 use Rattle.weights_grid.specs.declared.Grid.{Grid}
 use Rattle.footprint.specs.Footprints.{texelsOf, mostTexels, mostWeights}
-use Rattle.footprint.specs.Sides.{sides}
 use Rattle.lanes.specs.Lanes.{eights}
 
 four : (fs : List ℕ) {x y z w a b c d : ℕ} → x ≡ a → y ≡ b → z ≡ c → w ≡ d → infilled fs (x ∷ y ∷ z ∷ w ∷ []) ≡ infilled fs (a ∷ b ∷ c ∷ d ∷ [])

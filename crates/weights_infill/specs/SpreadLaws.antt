@@ -16,7 +16,6 @@ use Rattle.weights_grid.specs.Grids.{placeOf, countOf, Fits}
 use Rattle.weights_grid.specs.GridLaws.{sides-in, place-in}
 use Rattle.weights_infill.specs.Fast.{leftOf, spreadAt}
 use Rattle.weights_grid.specs.declared.Grid.{Grid}
-use Rattle.footprint.specs.Sides.{sides}
 
 -- the rows before j, of 16 places each, and 0 after them
 abbrev pub rowsTo : ℕ → (ℕ → ℕ) → ℕ → ℕ

@@ -58,12 +58,19 @@ fn neighbours(out: &mut [u16; 72], n: usize, planes: usize, wv: &[u8; WEIGHTS])
 }
 
 // One grid row, which starts at k, at the footprint's columns.
-fn spread_row(out: &mut [u16; 208], o: usize, bw: usize, at: &[u16; 16], next: &[u16; 72], k: usize)
-    requires { ⌜ (o + bw ≤ 208) × (bw ≤ 16) × ((s : ℕ) → s < bw → k + getD (now at) s 0 < 72) ⌝ }
-    ensures { λ _. ⌜ now (out .exit) ≡ putAt (λ (s : ℕ). getD (now (next .entry)) (k + getD (now (at .entry)) s 0) 0) o bw (now (out .entry)) ⌝ }
+fn spread_row(
+    out: &mut [u16; 208],
+    o: usize,
+    width: usize,
+    at: &[u16; 16],
+    next: &[u16; 72],
+    k: usize,
+)
+    requires { ⌜ (o + width ≤ 208) × (width ≤ 16) × ((s : ℕ) → s < width → k + getD (now at) s 0 < 72) ⌝ }
+    ensures { λ _. ⌜ now (out .exit) ≡ putAt (λ (s : ℕ). getD (now (next .entry)) (k + getD (now (at .entry)) s 0) 0) o width (now (out .entry)) ⌝ }
 {
     let mut s = 0;
-    while s < bw {
+    while s < width {
         out[o + s] = next[k + long(at[s])];
         s += 1;
     }
@@ -150,7 +157,7 @@ fn fill_plane(out: &mut [u8; WEIGHTS], g: Grid, next: &[u16; 72], plane: usize)
     fill_rows(out, g, &pairs, &part);
 }
 
-// The second plane's weights stand from 144 on.
+// The second plane's weights stand from TEXELS on.
 fn put_second(out: &mut [u8; WEIGHTS], n: usize, plane: &[u8; WEIGHTS])
     requires { ⌜ n ≤ mostTexels ⌝ }
     ensures { λ _. ⌜ now (out .exit) ≡ putAt (λ (i : ℕ). getD (now (plane .entry)) i 0) mostTexels n (now (out .entry)) ⌝ }

@@ -12,7 +12,6 @@ use Rattle.weights_infill.specs.Fast.{texels}
 use Rattle.weights_infill.specs.PlaneLaws.{texels-same, one-plane}
 use Rattle.weights_infill_down.specs.Down.{downTo, wholeOf}
 use Rattle.weights_grid.specs.declared.Grid.{Grid}
-use Rattle.footprint.specs.Sides.{sides}
 
 -- a place on a column of the grid has no part of the next
 between-rows : (a x b y h : ℕ) → h ≤ 16 → infilled (factors 0 h) (a ∷ x ∷ b ∷ y ∷ []) ≡ downTo a b h

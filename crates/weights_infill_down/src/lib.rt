@@ -24,12 +24,12 @@ fn long(x: u16) -> usize
 }
 
 // 1 for each column of the footprint, and 0 past it.
-fn inside(keep: &mut [u16; 16], bw: usize)
-    requires { ⌜ bw ≤ 16 ⌝ }
-    ensures { λ _. ⌜ now (keep .exit) ≡ put (λ (s : ℕ). 1) 0 bw (now (keep .entry)) ⌝ }
+fn inside(keep: &mut [u16; 16], width: usize)
+    requires { ⌜ width ≤ 16 ⌝ }
+    ensures { λ _. ⌜ now (keep .exit) ≡ put (λ (s : ℕ). 1) 0 width (now (keep .entry)) ⌝ }
 {
     let mut s = 0;
-    while s < bw {
+    while s < width {
         keep[s] = 1;
         s += 1;
     }

@@ -1,62 +1,61 @@
 -- Two words of eight bytes are the sum of sixteen.
-use Rattle.bits_load.specs.LoadLaws.{bytes-words}
-use borrow.Author.Needs.{needs}
+use Rattle.bits_load.specs.LoadLaws.{byte-in, bytes-words}
 use Rattle.bits_load.proofs.load.Statement.{statement}
 use Rattle.bits_load.proofs.load.Tie as tie
 
 shared-slice-read-word : tie.Need-shared-slice-read-word
-shared-slice-read-word c = search needs
+shared-slice-read-word c = byte-in _ _ (c .before .before .pre) tt
 
 shared-slice-read-word-2 : tie.Need-shared-slice-read-word-2
-shared-slice-read-word-2 c = search needs
+shared-slice-read-word-2 c = byte-in _ _ (c .before .before .before .pre) tt
 
 shared-slice-read-word-3 : tie.Need-shared-slice-read-word-3
-shared-slice-read-word-3 c = search needs
+shared-slice-read-word-3 c = byte-in _ _ (c .before .before .before .before .pre) tt
 
 shared-slice-read-word-4 : tie.Need-shared-slice-read-word-4
-shared-slice-read-word-4 c = search needs
+shared-slice-read-word-4 c = byte-in _ _ (c .before .before .before .before .before .pre) tt
 
 shared-slice-read-word-5 : tie.Need-shared-slice-read-word-5
-shared-slice-read-word-5 c = search needs
+shared-slice-read-word-5 c = byte-in _ _ (c .before .before .before .before .before .before .pre) tt
 
 shared-slice-read-word-6 : tie.Need-shared-slice-read-word-6
-shared-slice-read-word-6 c = search needs
+shared-slice-read-word-6 c = byte-in _ _ (c .before .before .before .before .before .before .before .pre) tt
 
 shared-slice-read-word-7 : tie.Need-shared-slice-read-word-7
-shared-slice-read-word-7 c = search needs
+shared-slice-read-word-7 c = byte-in _ _ (c .before .before .before .before .before .before .before .before .pre) tt
 
 shared-slice-read-word-8 : tie.Need-shared-slice-read-word-8
-shared-slice-read-word-8 c = search needs
+shared-slice-read-word-8 c = byte-in _ _ (c .before .before .before .before .before .before .before .before .before .pre) tt
 
 word-requires : tie.Need-word-requires
-word-requires c κs = search needs
+word-requires c κs = tt
 
 shared-slice-read-word-9 : tie.Need-shared-slice-read-word-9
-shared-slice-read-word-9 c = search needs
+shared-slice-read-word-9 c = byte-in _ _ (c .before .before .before .before .before .before .before .before .before .before .before .pre) tt
 
 shared-slice-read-word-10 : tie.Need-shared-slice-read-word-10
-shared-slice-read-word-10 c = search needs
+shared-slice-read-word-10 c = byte-in _ _ (c .before .before .before .before .before .before .before .before .before .before .before .before .pre) tt
 
 shared-slice-read-word-11 : tie.Need-shared-slice-read-word-11
-shared-slice-read-word-11 c = search needs
+shared-slice-read-word-11 c = byte-in _ _ (c .before .before .before .before .before .before .before .before .before .before .before .before .before .pre) tt
 
 shared-slice-read-word-12 : tie.Need-shared-slice-read-word-12
-shared-slice-read-word-12 c = search needs
+shared-slice-read-word-12 c = byte-in _ _ (c .before .before .before .before .before .before .before .before .before .before .before .before .before .before .pre) tt
 
 shared-slice-read-word-13 : tie.Need-shared-slice-read-word-13
-shared-slice-read-word-13 c = search needs
+shared-slice-read-word-13 c = byte-in _ _ (c .before .before .before .before .before .before .before .before .before .before .before .before .before .before .before .pre) tt
 
 shared-slice-read-word-14 : tie.Need-shared-slice-read-word-14
-shared-slice-read-word-14 c = search needs
+shared-slice-read-word-14 c = byte-in _ _ (c .before .before .before .before .before .before .before .before .before .before .before .before .before .before .before .before .pre) tt
 
 shared-slice-read-word-15 : tie.Need-shared-slice-read-word-15
-shared-slice-read-word-15 c = search needs
+shared-slice-read-word-15 c = byte-in _ _ (c .before .before .before .before .before .before .before .before .before .before .before .before .before .before .before .before .before .pre) tt
 
 shared-slice-read-word-16 : tie.Need-shared-slice-read-word-16
-shared-slice-read-word-16 c = search needs
+shared-slice-read-word-16 c = byte-in _ _ (c .before .before .before .before .before .before .before .before .before .before .before .before .before .before .before .before .before .before .pre) tt
 
 word-requires-2 : tie.Need-word-requires-2
-word-requires-2 c κs = search needs
+word-requires-2 c κs = tt
 
 returns : tie.Need-returns
 returns c = let first = c .before .before .before .before .before .before .before .before .before in

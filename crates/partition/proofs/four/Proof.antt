@@ -2,7 +2,7 @@
 use Rattle.partition.specs.PartitionLaws.{row-fits, moved-gentle, four-turn}
 use Rattle.partition.specs.Ramps.{ofFour}
 use Rattle.laws.specs.Lists.{put, texels, put-rows}
-use borrow.Author.Needs.{needs}
+use native.Mathlib.Nat.{lt-of-lt-of-le}
 use mathlib.Core.Path.{_≡_}
 use Prim.Native.Nat.{_-_, _*_, _≤_}
 use native.Mathlib.Omega.{arith}
@@ -22,16 +22,16 @@ mul-row-of-four : tie.Need-mul-row-of-four Inv-loop μ-loop
 mul-row-of-four c = omega (arith, row-fits (c .before .before .before .args .f) (c .before .before .loop .t) (c .before .before .before .pre .1 .1 .1 .1) (c .before .loop-test .taken))
 
 moved-requires : tie.Need-moved-requires Inv-loop μ-loop
-moved-requires c κs = search needs
+moved-requires c κs = let s = c .before .before .before in (s .pre .0, lt-of-lt-of-le (c .before .loop-test .taken) (s .pre .1 .1 .1 .1 .height))
 
 moved-requires-2 : tie.Need-moved-requires-2 Inv-loop μ-loop
-moved-requires-2 c κs = search needs
+moved-requires-2 c κs = let s = c .before .before .before .before in (s .pre .1 .0, lt-of-lt-of-le (c .before .before .loop-test .taken) (s .pre .1 .1 .1 .1 .height))
 
 moved-requires-3 : tie.Need-moved-requires-3 Inv-loop μ-loop
-moved-requires-3 c κs = search needs
+moved-requires-3 c κs = let s = c .before .before .before .before .before in (s .pre .1 .1 .0, lt-of-lt-of-le (c .before .before .before .loop-test .taken) (s .pre .1 .1 .1 .1 .height))
 
 moved-requires-4 : tie.Need-moved-requires-4 Inv-loop μ-loop
-moved-requires-4 c κs = search needs
+moved-requires-4 c κs = let s = c .before .before .before .before .before .before in (s .pre .1 .1 .1 .0, lt-of-lt-of-le (c .before .before .before .before .loop-test .taken) (s .pre .1 .1 .1 .1 .height))
 
 row-of-four-requires : tie.Need-row-of-four-requires Inv-loop μ-loop
 row-of-four-requires c κs =

@@ -1,7 +1,7 @@
 -- `partition::row_of_four` meets its contract: each turn fills one place more. Assumes nothing.
 use Rattle.partition.specs.Ramps.{inRowOfFour}
 use Rattle.laws.specs.Lists.{putAt, putAt-none, putAt-turn}
-use borrow.Author.Needs.{needs}
+use native.Mathlib.Nat.{lt-of-lt-of-le}
 use mathlib.Core.Path.{_≡_}
 use Prim.Native.Nat.{_-_, _≤_}
 use native.Mathlib.Omega.{arith}
@@ -18,19 +18,19 @@ loop-holds : tie.Need-loop-holds Inv-loop μ-loop
 loop-holds c = (omega arith, putAt-none _ _ _)
 
 in-row-requires : tie.Need-in-row-requires Inv-loop μ-loop
-in-row-requires c κs = search needs
+in-row-requires c κs = let s = c .before .before in (s .pre .0, lt-of-lt-of-le (c .loop-test .taken) (s .pre .1 .1 .1 .1 .1))
 
 in-row-requires-2 : tie.Need-in-row-requires-2 Inv-loop μ-loop
-in-row-requires-2 c κs = search needs
+in-row-requires-2 c κs = let s = c .before .before .before in (s .pre .1 .0, lt-of-lt-of-le (c .before .loop-test .taken) (s .pre .1 .1 .1 .1 .1))
 
 in-row-requires-3 : tie.Need-in-row-requires-3 Inv-loop μ-loop
-in-row-requires-3 c κs = search needs
+in-row-requires-3 c κs = let s = c .before .before .before .before in (s .pre .1 .1 .0, lt-of-lt-of-le (c .before .before .loop-test .taken) (s .pre .1 .1 .1 .1 .1))
 
 in-row-requires-4 : tie.Need-in-row-requires-4 Inv-loop μ-loop
-in-row-requires-4 c κs = search needs
+in-row-requires-4 c κs = let s = c .before .before .before .before .before in (s .pre .1 .1 .1 .0, lt-of-lt-of-le (c .before .before .before .loop-test .taken) (s .pre .1 .1 .1 .1 .1))
 
 largest-of-four-requires : tie.Need-largest-of-four-requires Inv-loop μ-loop
-largest-of-four-requires c κs = search needs
+largest-of-four-requires c κs = tt
 
 add-out : tie.Need-add-out Inv-loop μ-loop
 add-out c = omega arith

@@ -24,7 +24,7 @@ in-row-requires-2 : tie.Need-in-row-requires-2 Inv-loop μ-loop
 in-row-requires-2 c κs = search needs
 
 larger-of-two-requires : tie.Need-larger-of-two-requires Inv-loop μ-loop
-larger-of-two-requires c κs = search needs
+larger-of-two-requires c κs = tt
 
 add-out : tie.Need-add-out Inv-loop μ-loop
 add-out c = omega arith

@@ -2,7 +2,7 @@
 use Rattle.partition.specs.PartitionLaws.{row-fits, moved-gentle, two-turn}
 use Rattle.partition.specs.Ramps.{ofTwo}
 use Rattle.laws.specs.Lists.{put, texels, put-rows}
-use borrow.Author.Needs.{needs}
+use native.Mathlib.Nat.{lt-of-lt-of-le}
 use mathlib.Core.Path.{_≡_}
 use Prim.Native.Nat.{_-_, _*_, _≤_}
 use native.Mathlib.Omega.{arith}
@@ -22,10 +22,10 @@ mul-row-of-two : tie.Need-mul-row-of-two Inv-loop μ-loop
 mul-row-of-two c = omega (arith, row-fits (c .before .before .before .args .f) (c .before .before .loop .t) (c .before .before .before .pre .1 .1) (c .before .loop-test .taken))
 
 moved-requires : tie.Need-moved-requires Inv-loop μ-loop
-moved-requires c κs = search needs
+moved-requires c κs = let s = c .before .before .before in (s .pre .0, lt-of-lt-of-le (c .before .loop-test .taken) (s .pre .1 .1 .height))
 
 moved-requires-2 : tie.Need-moved-requires-2 Inv-loop μ-loop
-moved-requires-2 c κs = search needs
+moved-requires-2 c κs = let s = c .before .before .before .before in (s .pre .1 .0, lt-of-lt-of-le (c .before .before .loop-test .taken) (s .pre .1 .1 .height))
 
 row-of-two-requires : tie.Need-row-of-two-requires Inv-loop μ-loop
 row-of-two-requires c κs =

@@ -8,10 +8,10 @@ use Rattle.weights_infill.proofs.spread_row.Statement.{statement}
 use Rattle.weights_infill.proofs.spread_row.Tie as tie
 
 abbrev Inv-loop : tie.InvT-loop
-Inv-loop out₀ o bw at next k s₀ out s = (s ≤ bw) × (out ≡ putAt (λ (i : ℕ). getD next (k + getD at i 0) 0) o s out₀)
+Inv-loop out₀ o width at next k s₀ out s = (s ≤ width) × (out ≡ putAt (λ (i : ℕ). getD next (k + getD at i 0) 0) o s out₀)
 
 abbrev μ-loop : tie.MeasureT-loop
-μ-loop out₀ o bw at next k s₀ out s = bw - s
+μ-loop out₀ o width at next k s₀ out s = width - s
 
 inside : (c : tie.After-long Inv-loop μ-loop) → c .before .before .before .before .args .k + c .long .result < 72
 inside c = rw (c .long .ensures) (c .before .before .before .before .pre .2 (c .before .before .before .loop .s) (c .before .before .loop-test .taken))

@@ -7,10 +7,10 @@ use Rattle.weights_infill_down.proofs.inside.Statement.{statement}
 use Rattle.weights_infill_down.proofs.inside.Tie as tie
 
 abbrev Inv-loop : tie.InvT-loop
-Inv-loop keep₀ bw s₀ keep s = (s ≤ bw) × (keep ≡ put (λ (i : ℕ). 1) 0 s keep₀)
+Inv-loop keep₀ width s₀ keep s = (s ≤ width) × (keep ≡ put (λ (i : ℕ). 1) 0 s keep₀)
 
 abbrev μ-loop : tie.MeasureT-loop
-μ-loop keep₀ bw s₀ keep s = bw - s
+μ-loop keep₀ width s₀ keep s = width - s
 
 loop-holds : tie.Need-loop-holds Inv-loop μ-loop
 loop-holds c = (zero-le, put-none _ 0 _)
