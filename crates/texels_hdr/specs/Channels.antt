@@ -6,6 +6,7 @@ use lib.ListN.{getD}
 use Rattle.blend.specs.Blend.{hdrChannel, wordOf}
 use Rattle.endpoints_colours.specs.declared.Endpoints.{Endpoints}
 use Rattle.texels.specs.Kinds.{anyOf}
+use Rattle.texels_hdr.specs.declared.Channels.{Channels}
 use Rattle.texels_hdr.specs.declared.Four.{Four}
 use Rattle.texels_hdr.specs.declared.Numbers.{Numbers}
 
@@ -27,6 +28,14 @@ fieldOf φ e f g h = record { a = φ e; b = φ f; c = φ g; d = φ h }
 
 abbrev pub numbers : (Endpoints → ℕ) → (Endpoints → ℕ) → Endpoints → Endpoints → Endpoints → Endpoints → Numbers
 numbers φ ψ e f g h = record { first = fieldOf φ e f g h; second = fieldOf ψ e f g h }
+
+abbrev pub channels : Endpoints → Endpoints → Endpoints → Endpoints → Channels
+channels e f g h = record {
+  r = numbers (λ (e : Endpoints). e .r0) (λ (e : Endpoints). e .r1) e f g h;
+  g = numbers (λ (e : Endpoints). e .g0) (λ (e : Endpoints). e .g1) e f g h;
+  b = numbers (λ (e : Endpoints). e .b0) (λ (e : Endpoints). e .b1) e f g h;
+  a = numbers (λ (e : Endpoints). e .a0) (λ (e : Endpoints). e .a1) e f g h;
+}
 
 -- the word of texel i, of the channels of all
 abbrev pub wordAmong : List ℕ → List ℕ → List ℕ → List ℕ → ℕ → ℕ

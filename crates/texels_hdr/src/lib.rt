@@ -5,12 +5,11 @@ ghost use lib.ListN.{getD};
 ghost use Rattle.laws.specs.Lists.{put};
 ghost use Rattle.footprint.specs.Footprints.{mostTexels};
 ghost use Rattle.blend.specs.Blend.{hdrChannel};
-ghost use Rattle.endpoints_colours.specs.declared.Endpoints.{Endpoints};
 ghost use Rattle.lanes.specs.Lanes.{laneAt, eights};
 ghost use Rattle.texels.specs.Texels.{texelWord};
 ghost use Rattle.texels.specs.Given.{Given};
 ghost use Rattle.texels.specs.Kinds.{AllOf};
-ghost use Rattle.texels_hdr.specs.Channels.{Wide, hdrAt, numbers, wordAmong};
+ghost use Rattle.texels_hdr.specs.Channels.{Wide, hdrAt, channels, wordAmong};
 use endpoints_colours::Endpoints;
 use footprint::TEXELS;
 use footprint::WEIGHTS;
@@ -33,6 +32,14 @@ pub struct Four {
 pub struct Numbers {
     pub first: Four,
     pub second: Four,
+}
+
+// The numbers of all four channels.
+pub struct Channels {
+    pub r: Numbers,
+    pub g: Numbers,
+    pub b: Numbers,
+    pub a: Numbers,
 }
 
 // A cast in a function of its own: its caller need not show that the number fits.
@@ -69,7 +76,7 @@ fn hdr_flat(out: &mut [u8; TEXELS], n: usize, v: u16)
     }
 }
 
-// The same of two partitions: a and b have the numbers of each.
+// The same of two partitions: a and b have the numbers of each. They are read before the loop, which would read them anew after each store.
 fn hdr_two(
     out: &mut [u8; TEXELS],
     n: usize,
@@ -82,11 +89,15 @@ fn hdr_two(
     requires { ⌜ (n ≤ mostTexels) × (x ≤ mostTexels) × Wide a × Wide b ⌝ ∗ ⌜ ((i : ℕ) → getD (now w) i 0 ≤ 64) ⌝ ∗ ⌜ ((i : ℕ) → getD (now map) i 0 < 2) ⌝ }
     ensures { λ _. ⌜ now (out .exit) ≡ put (hdrAt a b (now (w .entry)) (now (map .entry)) x) 0 (eights n) (now (out .entry)) ⌝ }
 {
+    let a0 = a.a;
+    let a1 = a.b;
+    let b0 = b.a;
+    let b1 = b.b;
     let m = eights(n);
     let mut i = 0;
     while i < m {
         let p = map[i];
-        out[i] = hdr_channel(either(p, a.a, a.b), either(p, b.a, b.b), w[x + i]);
+        out[i] = hdr_channel(either(p, a0, a1), either(p, b0, b1), w[x + i]);
         i += 1;
     }
 }
@@ -104,15 +115,19 @@ fn hdr_four(
     requires { ⌜ (n ≤ mostTexels) × (x ≤ mostTexels) × Wide a × Wide b ⌝ ∗ ⌜ ((i : ℕ) → getD (now w) i 0 ≤ 64) ⌝ ∗ ⌜ ((i : ℕ) → getD (now map) i 0 < 4) ⌝ }
     ensures { λ _. ⌜ now (out .exit) ≡ put (hdrAt a b (now (w .entry)) (now (map .entry)) x) 0 (eights n) (now (out .entry)) ⌝ }
 {
+    let a0 = a.a;
+    let a1 = a.b;
+    let a2 = a.c;
+    let a3 = a.d;
+    let b0 = b.a;
+    let b1 = b.b;
+    let b2 = b.c;
+    let b3 = b.d;
     let m = eights(n);
     let mut i = 0;
     while i < m {
         let p = map[i];
-        out[i] = hdr_channel(
-            any(p, a.a, a.b, a.c, a.d),
-            any(p, b.a, b.b, b.c, b.d),
-            w[x + i],
-        );
+        out[i] = hdr_channel(any(p, a0, a1, a2, a3), any(p, b0, b1, b2, b3), w[x + i]);
         i += 1;
     }
 }
@@ -150,79 +165,66 @@ fn hdr_bytes<'a>(
     }
 }
 
-// The numbers of red; the other channels' follow.
-fn reds(e: Endpoints, f: Endpoints, g: Endpoints, h: Endpoints) -> Numbers
-    ensures { λ v. ⌜ v ≡ numbers (λ (e : Endpoints). e .r0) (λ (e : Endpoints). e .r1) e f g h ⌝ }
+// The numbers of each channel, of the partitions' endpoints.
+fn channels_of(e: Endpoints, f: Endpoints, g: Endpoints, h: Endpoints) -> Channels
+    ensures { λ v. ⌜ v ≡ channels e f g h ⌝ }
 {
-    Numbers {
-        first: Four {
-            a: e.r0,
-            b: f.r0,
-            c: g.r0,
-            d: h.r0,
+    Channels {
+        r: Numbers {
+            first: Four {
+                a: e.r0,
+                b: f.r0,
+                c: g.r0,
+                d: h.r0,
+            },
+            second: Four {
+                a: e.r1,
+                b: f.r1,
+                c: g.r1,
+                d: h.r1,
+            },
         },
-        second: Four {
-            a: e.r1,
-            b: f.r1,
-            c: g.r1,
-            d: h.r1,
+        g: Numbers {
+            first: Four {
+                a: e.g0,
+                b: f.g0,
+                c: g.g0,
+                d: h.g0,
+            },
+            second: Four {
+                a: e.g1,
+                b: f.g1,
+                c: g.g1,
+                d: h.g1,
+            },
         },
-    }
-}
-
-fn greens(e: Endpoints, f: Endpoints, g: Endpoints, h: Endpoints) -> Numbers
-    ensures { λ v. ⌜ v ≡ numbers (λ (e : Endpoints). e .g0) (λ (e : Endpoints). e .g1) e f g h ⌝ }
-{
-    Numbers {
-        first: Four {
-            a: e.g0,
-            b: f.g0,
-            c: g.g0,
-            d: h.g0,
+        b: Numbers {
+            first: Four {
+                a: e.b0,
+                b: f.b0,
+                c: g.b0,
+                d: h.b0,
+            },
+            second: Four {
+                a: e.b1,
+                b: f.b1,
+                c: g.b1,
+                d: h.b1,
+            },
         },
-        second: Four {
-            a: e.g1,
-            b: f.g1,
-            c: g.g1,
-            d: h.g1,
-        },
-    }
-}
-
-fn blues(e: Endpoints, f: Endpoints, g: Endpoints, h: Endpoints) -> Numbers
-    ensures { λ v. ⌜ v ≡ numbers (λ (e : Endpoints). e .b0) (λ (e : Endpoints). e .b1) e f g h ⌝ }
-{
-    Numbers {
-        first: Four {
-            a: e.b0,
-            b: f.b0,
-            c: g.b0,
-            d: h.b0,
-        },
-        second: Four {
-            a: e.b1,
-            b: f.b1,
-            c: g.b1,
-            d: h.b1,
-        },
-    }
-}
-
-fn alphas(e: Endpoints, f: Endpoints, g: Endpoints, h: Endpoints) -> Numbers
-    ensures { λ v. ⌜ v ≡ numbers (λ (e : Endpoints). e .a0) (λ (e : Endpoints). e .a1) e f g h ⌝ }
-{
-    Numbers {
-        first: Four {
-            a: e.a0,
-            b: f.a0,
-            c: g.a0,
-            d: h.a0,
-        },
-        second: Four {
-            a: e.a1,
-            b: f.a1,
-            c: g.a1,
-            d: h.a1,
+        a: Numbers {
+            first: Four {
+                a: e.a0,
+                b: f.a0,
+                c: g.a0,
+                d: h.a0,
+            },
+            second: Four {
+                a: e.a1,
+                b: f.a1,
+                c: g.a1,
+                d: h.a1,
+            },
         },
     }
 }
@@ -270,17 +272,14 @@ pub fn paint_hdr<'a>(
     ensures { λ _. ⌜ now (out .exit) ≡ put (laneAt (texelWord ends (now (w .entry)) (now (map .entry)) planes channel)) 0 (2 * eights n) (now (out .entry)) ⌝ }
 {
     let k = starts_of(planes, channel);
-    let e = ends[0];
-    let f = ends[1];
-    let g = ends[2];
-    let h = ends[3];
+    let v = channels_of(ends[0], ends[1], ends[2], ends[3]);
     let mut red = [0u8; TEXELS];
     let mut green = [0u8; TEXELS];
     let mut blue = [0u8; TEXELS];
     let mut alpha = [0u8; TEXELS];
-    hdr_bytes(&mut red, n, parts, w, k.r, map, reds(e, f, g, h));
-    hdr_bytes(&mut green, n, parts, w, k.g, map, greens(e, f, g, h));
-    hdr_bytes(&mut blue, n, parts, w, k.b, map, blues(e, f, g, h));
-    hdr_bytes(&mut alpha, n, parts, w, k.a, map, alphas(e, f, g, h));
+    hdr_bytes(&mut red, n, parts, w, k.r, map, v.r);
+    hdr_bytes(&mut green, n, parts, w, k.g, map, v.g);
+    hdr_bytes(&mut blue, n, parts, w, k.b, map, v.b);
+    hdr_bytes(&mut alpha, n, parts, w, k.a, map, v.a);
     join_all(out, n, &red, &green, &blue, &alpha);
 }

@@ -13,11 +13,11 @@ use Rattle.texels_hdr.proofs.hdr_four.Statement.{statement}
 use Rattle.texels_hdr.proofs.hdr_four.Tie as tie
 
 abbrev Inv-loop : tie.InvT-loop
-Inv-loop out₀ n w x map a b m i₀ out i =
-    (i ≤ eights n) × (out ≡ put (hdrAt a b w map x) 0 i out₀)
+Inv-loop out₀ n w x map a0 a1 a2 a3 b0 b1 b2 b3 m i₀ out i =
+    (i ≤ eights n) × (out ≡ put (hdrAt (record { a = a0; b = a1; c = a2; d = a3 }) (record { a = b0; b = b1; c = b2; d = b3 }) w map x) 0 i out₀)
 
 abbrev μ-loop : tie.MeasureT-loop
-μ-loop out₀ n w x map a b m i₀ out i = eights n - i
+μ-loop out₀ n w x map a0 a1 a2 a3 b0 b1 b2 b3 m i₀ out i = eights n - i
 
 -- the turn's texel
 turn : (c : tie.In-loop Inv-loop μ-loop) → c .before .loop .i < eights (c .before .before .before .args .n)

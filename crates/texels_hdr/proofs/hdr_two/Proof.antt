@@ -1,23 +1,24 @@
 -- `texels_hdr::hdr_two`: the places before i have the channel of the texels before i. Assumes nothing.
-use mathlib.Core.Path.{_≡_}
+use mathlib.Core.Path.{_≡_, _∙_}
 use Prim.Native.Nat.{ℕ, _+_, _-_, _≤_, _<_, zero-le}
 use lib.ListN.{getD}
-use Rattle.laws.specs.Lists.{put, put-none, put-turn, put-end}
+use Rattle.laws.specs.Lists.{put, put-none, put-turn, put-end, put-same}
 use Rattle.footprint.specs.Footprints.{mostTexels}
 use Rattle.lanes.specs.Lanes.{eights}
 use Rattle.texels.specs.TurnLaws.{inside, next-fits, next-le, less-left, weight-fits, weight-in}
-use Rattle.texels_hdr.specs.Channels.{hdrAt}
-use Rattle.texels_hdr.specs.HdrLaws.{two-wide, two-is}
+use Rattle.blend.specs.Blend.{hdrChannel}
+use Rattle.texels.specs.Kinds.{eitherOf}
+use Rattle.texels_hdr.specs.HdrLaws.{either-pick, two-wide}
 use native.Mathlib.Omega.{arith}
 use Rattle.texels_hdr.proofs.hdr_two.Statement.{statement}
 use Rattle.texels_hdr.proofs.hdr_two.Tie as tie
 
 abbrev Inv-loop : tie.InvT-loop
-Inv-loop out₀ n w x map a b m i₀ out i =
-    (i ≤ eights n) × (out ≡ put (hdrAt a b w map x) 0 i out₀)
+Inv-loop out₀ n w x map a0 a1 b0 b1 m i₀ out i =
+    (i ≤ eights n) × (out ≡ put (λ (i : ℕ). hdrChannel (eitherOf (getD map i 0) a0 a1) (eitherOf (getD map i 0) b0 b1) (getD w (x + i) 0)) 0 i out₀)
 
 abbrev μ-loop : tie.MeasureT-loop
-μ-loop out₀ n w x map a b m i₀ out i = eights n - i
+μ-loop out₀ n w x map a0 a1 b0 b1 m i₀ out i = eights n - i
 
 -- the turn's texel
 turn : (c : tie.In-loop Inv-loop μ-loop) → c .before .loop .i < eights (c .before .before .before .args .n)
@@ -65,10 +66,13 @@ loop-less : tie.Need-loop-less Inv-loop μ-loop
 loop-less c = less-left (turn (c .before .before .before .before .before))
 
 loop-again : tie.Need-loop-again Inv-loop μ-loop
-loop-again c = (next-le (turn (c .before .before .before .before .before)), put-turn _ _ _ _ _ _ (c .before .before .before .before .before .before .loop .inv .1) zero-le (let s = c .before .before .before .before .before .before .before .before in two-is (s .args .a) (s .args .b) (getD (s .args .map .now) (c .before .before .before .before .before .before .loop .i) 0) (getD (s .args .w .now) (s .args .x + c .before .before .before .before .before .before .loop .i) 0) (s .pre .1 .1 (c .before .before .before .before .before .before .loop .i)) (c .before .before .before .either .ensures) (c .before .before .either2 .ensures) (c .hdr-channel .ensures)))
+loop-again c = (next-le (turn (c .before .before .before .before .before)), put-turn _ _ _ _ _ _ (c .before .before .before .before .before .before .loop .inv .1) zero-le (c .hdr-channel .ensures ∙ rw (c .before .before .before .either .ensures, c .before .before .either2 .ensures)))
 
 returns : tie.Need-returns Inv-loop μ-loop
-returns c = put-end _ _ _ _ _ _ (c .before .loop .inv .1) (c .before .loop .inv .0) (omega arith)
+returns c =
+    let s = c .before .before .before in
+    put-end _ _ _ (eights (s .args .n)) _ _ (c .before .loop .inv .1) (c .before .loop .inv .0) (omega arith)
+    ∙ put-same _ _ 0 (eights (s .args .n)) _ (λ i l h. rw (either-pick (s .args .a) (getD (s .args .map .now) i 0) (s .pre .1 .1 i), either-pick (s .args .b) (getD (s .args .map .now) i 0) (s .pre .1 .1 i)))
 
 pub hdr-two-spec : {M : Type 1} → statement M
 hdr-two-spec =

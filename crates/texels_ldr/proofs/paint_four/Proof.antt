@@ -66,7 +66,8 @@ any-of-requires c κs = (c .before .before .before .before .before .before .befo
 pair-requires : tie.Need-pair-requires Inv-loop μ-loop
 pair-requires c κs =
     let h : Plain (c .any-of .result) = rw (c .any-of .ensures) (plain (c .before .before .before)) in
-    omega (arith, h .b0, h .b1, h .g0, h .g1, c .before .before .weights-at .ensures .light)
+    let l = c .before .before .weights-at .ensures .light in
+    (h .b0, h .b1, h .g0, h .g1, l .2, l .1)
 
 mul-out : tie.Need-mul-out Inv-loop μ-loop
 mul-out c = low-fits (within (c .before .before .before .before))
@@ -80,7 +81,8 @@ element-write-out c = low-in (within (c .before .before .before .before))
 pair-requires-2 : tie.Need-pair-requires-2 Inv-loop μ-loop
 pair-requires-2 c κs =
     let h : Plain (c .before .any-of .result) = rw (c .before .any-of .ensures) (plain (c .before .before .before .before)) in
-    omega (arith, h .r0, h .r1, h .a0, h .a1, c .before .before .before .weights-at .ensures .light)
+    let l = c .before .before .before .weights-at .ensures .light in
+    (h .r0, h .r1, h .a0, h .a1, l .0, l .3)
 
 mul-out-3 : tie.Need-mul-out-3 Inv-loop μ-loop
 mul-out-3 c = low-fits (within (c .before .before .before .before .before))

@@ -35,7 +35,10 @@ weights-at-requires : tie.Need-weights-at-requires Inv-loop μ-loop
 weights-at-requires c κs = let s = c .before .before .before in ((s .pre .0 .1, within c), s .pre .1)
 
 pair-requires : tie.Need-pair-requires Inv-loop μ-loop
-pair-requires c κs = omega arith
+pair-requires c κs =
+    let h = c .before .before .before .before .pre .0 .2 in
+    let l = c .weights-at .ensures .light in
+    (h .b0, h .b1, h .g0, h .g1, l .2, l .1)
 
 mul-out : tie.Need-mul-out Inv-loop μ-loop
 mul-out c = low-fits (within (c .before .before))
@@ -47,7 +50,10 @@ element-write-out : tie.Need-element-write-out Inv-loop μ-loop
 element-write-out c = low-in (within (c .before .before))
 
 pair-requires-2 : tie.Need-pair-requires-2 Inv-loop μ-loop
-pair-requires-2 c κs = omega arith
+pair-requires-2 c κs =
+    let h = c .before .before .before .before .before .pre .0 .2 in
+    let l = c .before .weights-at .ensures .light in
+    (h .r0, h .r1, h .a0, h .a1, l .0, l .3)
 
 mul-out-3 : tie.Need-mul-out-3 Inv-loop μ-loop
 mul-out-3 c = low-fits (within (c .before .before .before))
