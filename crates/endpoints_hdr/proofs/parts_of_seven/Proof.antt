@@ -44,7 +44,7 @@ add-seven-by-3 : tie.Need-add-seven-by-3
 add-seven-by-3 c = fits 2047 (sum-le (sum-le (sum-le (red (c .before)) (bit-le _ 256)) (bit-le _ 512)) (bit-le _ 1024)) (lit≤ tt)
 
 seven-by-requires : tie.Need-seven-by-requires
-seven-by-requires c κs = (scaled-lt 2 (sum-le (sum-le (sum-le (red (c .before)) (bit-le _ 256)) (bit-le _ 512)) (bit-le _ 1024)) (lit< tt), scaled-lt 2 (low-5 _) (lit< tt), scaled-lt 2 (low-5 _) (lit< tt), scaled-lt 2 (low-7 _) (lit< tt))
+seven-by-requires c κs = (scaled-lt _ (sum-le (sum-le (sum-le (red (c .before)) (bit-le _ 256)) (bit-le _ 512)) (bit-le _ 1024)) (lit< tt), scaled-lt _ (low-5 _) (lit< tt), scaled-lt _ (low-5 _) (lit< tt), scaled-lt _ (low-7 _) (lit< tt))
 
 mul-seven-by-4 : tie.Need-mul-seven-by-4
 mul-seven-by-4 c = fits 256 (bit-le _ 256) (lit≤ tt)
@@ -65,7 +65,7 @@ add-seven-by-6 : tie.Need-add-seven-by-6
 add-seven-by-6 c = fits 2047 (sum-le (sum-le (sum-le (red (c .before)) (bit-le _ 256)) (bit-le _ 512)) (bit-le _ 1024)) (lit≤ tt)
 
 seven-by-requires-2 : tie.Need-seven-by-requires-2
-seven-by-requires-2 c κs = (scaled-lt 2 (sum-le (sum-le (sum-le (red (c .before)) (bit-le _ 256)) (bit-le _ 512)) (bit-le _ 1024)) (lit< tt), scaled-lt 2 (low-6 _) (lit< tt), scaled-lt 2 (low-6 _) (lit< tt), scaled-lt 2 (low-5 _) (lit< tt))
+seven-by-requires-2 c κs = (scaled-lt _ (sum-le (sum-le (sum-le (red (c .before)) (bit-le _ 256)) (bit-le _ 512)) (bit-le _ 1024)) (lit< tt), scaled-lt _ (low-6 _) (lit< tt), scaled-lt _ (low-6 _) (lit< tt), scaled-lt _ (low-5 _) (lit< tt))
 
 mul-seven-by-7 : tie.Need-mul-seven-by-7
 mul-seven-by-7 c = fits 64 (bit-le _ 64) (lit≤ tt)
@@ -92,7 +92,7 @@ add-seven-by-10 : tie.Need-add-seven-by-10
 add-seven-by-10 c = fits 1023 (sum-le (sum-le (sum-le (sum-le (low-6 _) (bit-le _ 64)) (bit-le _ 128)) (bit-le _ 256)) (bit-le _ 512)) (lit≤ tt)
 
 seven-by-requires-3 : tie.Need-seven-by-requires-3
-seven-by-requires-3 c κs = (scaled-lt 4 (sum-le (sum-le (sum-le (sum-le (low-6 _) (bit-le _ 64)) (bit-le _ 128)) (bit-le _ 256)) (bit-le _ 512)) (lit< tt), scaled-lt 4 (low-5 _) (lit< tt), scaled-lt 4 (low-5 _) (lit< tt), scaled-lt 4 (under (byte (c .before))) (lit< tt))
+seven-by-requires-3 c κs = (scaled-lt _ (sum-le (sum-le (sum-le (sum-le (low-6 _) (bit-le _ 64)) (bit-le _ 128)) (bit-le _ 256)) (bit-le _ 512)) (lit< tt), scaled-lt _ (low-5 _) (lit< tt), scaled-lt _ (low-5 _) (lit< tt), scaled-lt _ (under (byte (c .before))) (lit< tt))
 
 mul-seven-by-11 : tie.Need-mul-seven-by-11
 mul-seven-by-11 c = fits 256 (bit-le _ 256) (lit≤ tt)
@@ -101,7 +101,7 @@ add-seven-by-11 : tie.Need-add-seven-by-11
 add-seven-by-11 c = fits 511 (sum-le (red (c .before)) (bit-le _ 256)) (lit≤ tt)
 
 seven-by-requires-4 : tie.Need-seven-by-requires-4
-seven-by-requires-4 c κs = (scaled-lt 8 (sum-le (red (c .before)) (bit-le _ 256)) (lit< tt), scaled-lt 8 (low-6 _) (lit< tt), scaled-lt 8 (low-6 _) (lit< tt), scaled-lt 8 (low-7 _) (lit< tt))
+seven-by-requires-4 c κs = (scaled-lt _ (sum-le (red (c .before)) (bit-le _ 256)) (lit< tt), scaled-lt _ (low-6 _) (lit< tt), scaled-lt _ (low-6 _) (lit< tt), scaled-lt _ (low-7 _) (lit< tt))
 
 mul-seven-by-12 : tie.Need-mul-seven-by-12
 mul-seven-by-12 c = fits 64 (top-le 64 (byte (c .before))) (lit≤ tt)
@@ -116,7 +116,7 @@ add-seven-by-13 : tie.Need-add-seven-by-13
 add-seven-by-13 c = fits 255 (sum-le (sum-le (low-6 _) (top-le 64 (byte (c .before)))) (bit-le _ 128)) (lit≤ tt)
 
 seven-by-requires-5 : tie.Need-seven-by-requires-5
-seven-by-requires-5 c κs = (scaled-lt 16 (sum-le (sum-le (low-6 _) (top-le 64 (byte (c .before)))) (bit-le _ 128)) (lit< tt), scaled-lt 16 (low-7 _) (lit< tt), scaled-lt 16 (low-7 _) (lit< tt), scaled-lt 16 (low-6 _) (lit< tt))
+seven-by-requires-5 c κs = (scaled-lt _ (sum-le (sum-le (low-6 _) (top-le 64 (byte (c .before)))) (bit-le _ 128)) (lit< tt), scaled-lt _ (low-7 _) (lit< tt), scaled-lt _ (low-7 _) (lit< tt), scaled-lt _ (low-6 _) (lit< tt))
 
 mul-seven-by-14 : tie.Need-mul-seven-by-14
 mul-seven-by-14 c = fits 64 (top-le 64 (byte (c .before))) (lit≤ tt)
@@ -125,7 +125,7 @@ add-seven-by-14 : tie.Need-add-seven-by-14
 add-seven-by-14 c = fits 127 (sum-le (low-6 _) (top-le 64 (byte (c .before)))) (lit≤ tt)
 
 seven-by-requires-6 : tie.Need-seven-by-requires-6
-seven-by-requires-6 c κs = (scaled-lt 32 (sum-le (low-6 _) (top-le 64 (byte (c .before)))) (lit< tt), scaled-lt 32 (low-7 _) (lit< tt), scaled-lt 32 (low-7 _) (lit< tt), scaled-lt 32 (low-7 _) (lit< tt))
+seven-by-requires-6 c κs = (scaled-lt _ (sum-le (low-6 _) (top-le 64 (byte (c .before)))) (lit< tt), scaled-lt _ (low-7 _) (lit< tt), scaled-lt _ (low-7 _) (lit< tt), scaled-lt _ (low-7 _) (lit< tt))
 
 returns : tie.Need-returns
 returns c = (seven-0 _ _ _ _ _ _ (byte (c .before .before)) (c .before .match .keys1) (c .seven-by .ensures .0), c .seven-by .ensures .1)
