@@ -138,6 +138,10 @@ pub base-small : (v : Values) → v .v0 < 256 → (m : ℕ) → m < 8 → up m (
 unfolding bases
 base-small v h = below-8 _ (omega arith) (omega arith) (omega arith) (omega arith) (omega arith) (omega arith) (omega arith) (omega arith)
 
+-- with its bound
+pub base-out : (v : Values) (m r : ℕ) → v .v0 < 256 → m < 8 → r ≡ getD (bases v) m 0 → (r ≡ getD (bases v) m 0) × (up m r < 4096)
+base-out v m r h l e = (e, rw e (base-small v h m l))
+
 bits-few : (m : ℕ) → m < 8 → getD offsetBits m 0 ≤ 7
 unfolding offsetBits
 bits-few = below-8 _ (lit≤ tt) (lit≤ tt) (lit≤ tt) (lit≤ tt) (lit≤ tt) (lit≤ tt) (lit≤ tt) (lit≤ tt)

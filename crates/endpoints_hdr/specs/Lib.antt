@@ -1,2 +1,3 @@
+pub mod BitLaws
 pub mod HdrLaws
 pub mod Hdr11Laws

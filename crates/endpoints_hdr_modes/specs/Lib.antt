@@ -1,1 +1,2 @@
+pub mod ElevenLaws
 pub mod ModeLaws

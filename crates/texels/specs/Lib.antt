@@ -5,3 +5,4 @@ pub mod PaintLaws
 pub mod KindLaws
 pub mod TexelLaws
 pub mod Values
+pub mod TurnLaws

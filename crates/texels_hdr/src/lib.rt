@@ -5,12 +5,11 @@ ghost use lib.ListN.{getD};
 ghost use Rattle.laws.specs.Lists.{put};
 ghost use Rattle.footprint.specs.Footprints.{mostTexels};
 ghost use Rattle.blend.specs.Blend.{hdrChannel};
-ghost use Rattle.endpoints_colours.specs.declared.Endpoints.{Endpoints};
 ghost use Rattle.lanes.specs.Lanes.{laneAt, eights};
 ghost use Rattle.texels.specs.Texels.{texelWord};
 ghost use Rattle.texels.specs.Given.{Given};
 ghost use Rattle.texels.specs.Kinds.{AllOf};
-ghost use Rattle.texels_hdr.specs.Channels.{Wide, hdrAt, numbers, wordAmong};
+ghost use Rattle.texels_hdr.specs.Channels.{Wide, hdrAt, channels, wordAmong};
 use endpoints_colours::Endpoints;
 use footprint::TEXELS;
 use footprint::WEIGHTS;
@@ -21,10 +20,26 @@ use texels::either;
 use texels::hdr_channel;
 use texels::starts_of;
 
+// A number of each partition.
+pub struct Four {
+    pub a: u16,
+    pub b: u16,
+    pub c: u16,
+    pub d: u16,
+}
+
 // The numbers of one channel in each partition, at both ends.
 pub struct Numbers {
-    pub first: [u16; 4],
-    pub second: [u16; 4],
+    pub first: Four,
+    pub second: Four,
+}
+
+// The numbers of all four channels.
+pub struct Channels {
+    pub r: Numbers,
+    pub g: Numbers,
+    pub b: Numbers,
+    pub a: Numbers,
 }
 
 // A cast in a function of its own: its caller need not show that the number fits.
@@ -61,23 +76,23 @@ fn hdr_flat(out: &mut [u8; TEXELS], n: usize, v: u16)
     }
 }
 
-// The same of two partitions: a and b have the numbers of each.
+// The same of two partitions: a and b have the numbers of each. They are read before the loop, which would read them anew after each store.
 fn hdr_two(
     out: &mut [u8; TEXELS],
     n: usize,
     w: &[u8; WEIGHTS],
     x: usize,
     map: &[u8; TEXELS],
-    a: [u16; 4],
-    b: [u16; 4],
+    a: Four,
+    b: Four,
 )
     requires { ⌜ (n ≤ mostTexels) × (x ≤ mostTexels) × Wide a × Wide b ⌝ ∗ ⌜ ((i : ℕ) → getD (now w) i 0 ≤ 64) ⌝ ∗ ⌜ ((i : ℕ) → getD (now map) i 0 < 2) ⌝ }
     ensures { λ _. ⌜ now (out .exit) ≡ put (hdrAt a b (now (w .entry)) (now (map .entry)) x) 0 (eights n) (now (out .entry)) ⌝ }
 {
-    let a0 = a[0];
-    let a1 = a[1];
-    let b0 = b[0];
-    let b1 = b[1];
+    let a0 = a.a;
+    let a1 = a.b;
+    let b0 = b.a;
+    let b1 = b.b;
     let m = eights(n);
     let mut i = 0;
     while i < m {
@@ -94,20 +109,20 @@ fn hdr_four(
     w: &[u8; WEIGHTS],
     x: usize,
     map: &[u8; TEXELS],
-    a: [u16; 4],
-    b: [u16; 4],
+    a: Four,
+    b: Four,
 )
     requires { ⌜ (n ≤ mostTexels) × (x ≤ mostTexels) × Wide a × Wide b ⌝ ∗ ⌜ ((i : ℕ) → getD (now w) i 0 ≤ 64) ⌝ ∗ ⌜ ((i : ℕ) → getD (now map) i 0 < 4) ⌝ }
     ensures { λ _. ⌜ now (out .exit) ≡ put (hdrAt a b (now (w .entry)) (now (map .entry)) x) 0 (eights n) (now (out .entry)) ⌝ }
 {
-    let a0 = a[0];
-    let a1 = a[1];
-    let a2 = a[2];
-    let a3 = a[3];
-    let b0 = b[0];
-    let b1 = b[1];
-    let b2 = b[2];
-    let b3 = b[3];
+    let a0 = a.a;
+    let a1 = a.b;
+    let a2 = a.c;
+    let a3 = a.d;
+    let b0 = b.a;
+    let b1 = b.b;
+    let b2 = b.c;
+    let b3 = b.d;
     let m = eights(n);
     let mut i = 0;
     while i < m {
@@ -115,6 +130,17 @@ fn hdr_four(
         out[i] = hdr_channel(any(p, a0, a1, a2, a3), any(p, b0, b1, b2, b3), w[x + i]);
         i += 1;
     }
+}
+
+// One HDR channel of the texels of one partition.
+fn hdr_single(out: &mut [u8; TEXELS], n: usize, w: &[u8; WEIGHTS], x: usize, v0: u16, v1: u16)
+    requires { ⌜ (n ≤ mostTexels) × (x ≤ mostTexels) × (v0 < 4096) × (v1 < 4096) ⌝ ∗ ⌜ ((i : ℕ) → getD (now w) i 0 ≤ 64) ⌝ }
+    ensures { λ _. ⌜ now (out .exit) ≡ put (λ (i : ℕ). hdrChannel v0 v1 (getD (now (w .entry)) (x + i) 0)) 0 (eights n) (now (out .entry)) ⌝ }
+{
+    if v0 == v1 {
+        return hdr_flat(out, n, v0);
+    }
+    hdr_one(out, n, w, x, v0, v1);
 }
 
 // One HDR channel of the texels, by its numbers in the partitions in use.
@@ -132,70 +158,74 @@ fn hdr_bytes<'a>(
 {
     let a = v.first;
     let b = v.second;
-    if parts == 1 {
-        let v0 = a[0];
-        let v1 = b[0];
-        if v0 == v1 {
-            return hdr_flat(out, n, v0);
-        }
-        return hdr_one(out, n, w, x, v0, v1);
-    }
-    if parts == 2 {
-        return hdr_two(out, n, w, x, map, a, b);
-    }
-    hdr_four(out, n, w, x, map, a, b);
-}
-
-// The numbers of red; the other channels' follow.
-fn reds(ends: [Endpoints; 4]) -> Numbers
-    ensures { λ v. ⌜ v ≡ numbers (λ (e : Endpoints). e .r0) (λ (e : Endpoints). e .r1) ends ⌝ }
-{
-    let e = ends[0];
-    let f = ends[1];
-    let g = ends[2];
-    let h = ends[3];
-    Numbers {
-        first: [e.r0, f.r0, g.r0, h.r0],
-        second: [e.r1, f.r1, g.r1, h.r1],
+    match parts {
+        1 => hdr_single(out, n, w, x, a.a, b.a),
+        2 => hdr_two(out, n, w, x, map, a, b),
+        _ => hdr_four(out, n, w, x, map, a, b),
     }
 }
 
-fn greens(ends: [Endpoints; 4]) -> Numbers
-    ensures { λ v. ⌜ v ≡ numbers (λ (e : Endpoints). e .g0) (λ (e : Endpoints). e .g1) ends ⌝ }
+// The numbers of each channel, of the partitions' endpoints.
+fn channels_of(e: Endpoints, f: Endpoints, g: Endpoints, h: Endpoints) -> Channels
+    ensures { λ v. ⌜ v ≡ channels e f g h ⌝ }
 {
-    let e = ends[0];
-    let f = ends[1];
-    let g = ends[2];
-    let h = ends[3];
-    Numbers {
-        first: [e.g0, f.g0, g.g0, h.g0],
-        second: [e.g1, f.g1, g.g1, h.g1],
-    }
-}
-
-fn blues(ends: [Endpoints; 4]) -> Numbers
-    ensures { λ v. ⌜ v ≡ numbers (λ (e : Endpoints). e .b0) (λ (e : Endpoints). e .b1) ends ⌝ }
-{
-    let e = ends[0];
-    let f = ends[1];
-    let g = ends[2];
-    let h = ends[3];
-    Numbers {
-        first: [e.b0, f.b0, g.b0, h.b0],
-        second: [e.b1, f.b1, g.b1, h.b1],
-    }
-}
-
-fn alphas(ends: [Endpoints; 4]) -> Numbers
-    ensures { λ v. ⌜ v ≡ numbers (λ (e : Endpoints). e .a0) (λ (e : Endpoints). e .a1) ends ⌝ }
-{
-    let e = ends[0];
-    let f = ends[1];
-    let g = ends[2];
-    let h = ends[3];
-    Numbers {
-        first: [e.a0, f.a0, g.a0, h.a0],
-        second: [e.a1, f.a1, g.a1, h.a1],
+    Channels {
+        r: Numbers {
+            first: Four {
+                a: e.r0,
+                b: f.r0,
+                c: g.r0,
+                d: h.r0,
+            },
+            second: Four {
+                a: e.r1,
+                b: f.r1,
+                c: g.r1,
+                d: h.r1,
+            },
+        },
+        g: Numbers {
+            first: Four {
+                a: e.g0,
+                b: f.g0,
+                c: g.g0,
+                d: h.g0,
+            },
+            second: Four {
+                a: e.g1,
+                b: f.g1,
+                c: g.g1,
+                d: h.g1,
+            },
+        },
+        b: Numbers {
+            first: Four {
+                a: e.b0,
+                b: f.b0,
+                c: g.b0,
+                d: h.b0,
+            },
+            second: Four {
+                a: e.b1,
+                b: f.b1,
+                c: g.b1,
+                d: h.b1,
+            },
+        },
+        a: Numbers {
+            first: Four {
+                a: e.a0,
+                b: f.a0,
+                c: g.a0,
+                d: h.a0,
+            },
+            second: Four {
+                a: e.a1,
+                b: f.a1,
+                c: g.a1,
+                d: h.a1,
+            },
+        },
     }
 }
 
@@ -242,13 +272,14 @@ pub fn paint_hdr<'a>(
     ensures { λ _. ⌜ now (out .exit) ≡ put (laneAt (texelWord ends (now (w .entry)) (now (map .entry)) planes channel)) 0 (2 * eights n) (now (out .entry)) ⌝ }
 {
     let k = starts_of(planes, channel);
-    let mut r = [0u8; TEXELS];
-    let mut g = [0u8; TEXELS];
-    let mut b = [0u8; TEXELS];
-    let mut a = [0u8; TEXELS];
-    hdr_bytes(&mut r, n, parts, w, k.r, map, reds(ends));
-    hdr_bytes(&mut g, n, parts, w, k.g, map, greens(ends));
-    hdr_bytes(&mut b, n, parts, w, k.b, map, blues(ends));
-    hdr_bytes(&mut a, n, parts, w, k.a, map, alphas(ends));
-    join_all(out, n, &r, &g, &b, &a);
+    let v = channels_of(ends[0], ends[1], ends[2], ends[3]);
+    let mut red = [0u8; TEXELS];
+    let mut green = [0u8; TEXELS];
+    let mut blue = [0u8; TEXELS];
+    let mut alpha = [0u8; TEXELS];
+    hdr_bytes(&mut red, n, parts, w, k.r, map, v.r);
+    hdr_bytes(&mut green, n, parts, w, k.g, map, v.g);
+    hdr_bytes(&mut blue, n, parts, w, k.b, map, v.b);
+    hdr_bytes(&mut alpha, n, parts, w, k.a, map, v.a);
+    join_all(out, n, &red, &green, &blue, &alpha);
 }

@@ -1,46 +1,30 @@
--- The places before i have the channel of the texels before i.
-use Rattle.texels.specs.KindLaws.{any-entry}
-use mathlib.Core.Path.{_≡_, _∙_}
-use Prim.Native.Nat.{ℕ, _+_, _-_, _≤_, zero-le}
+-- `texels_hdr::hdr_four`: the places before i have the channel of the texels before i. Assumes nothing.
+use mathlib.Core.Path.{_≡_}
+use Prim.Native.Nat.{ℕ, _+_, _-_, _≤_, _<_, zero-le}
 use lib.ListN.{getD}
-use Rattle.laws.specs.Lists.{put, put-none, put-turn, put-end, put-same}
-use Rattle.blend.specs.Blend.{hdrChannel}
+use Rattle.laws.specs.Lists.{put, put-none, put-turn, put-end}
+use Rattle.footprint.specs.Footprints.{mostTexels}
 use Rattle.lanes.specs.Lanes.{eights}
-use Rattle.texels.specs.Kinds.{anyOf}
+use Rattle.texels.specs.TurnLaws.{inside, next-fits, next-le, less-left, weight-fits, weight-in}
+use Rattle.texels_hdr.specs.Channels.{hdrAt}
+use Rattle.texels_hdr.specs.HdrLaws.{four-wide, four-is}
 use native.Mathlib.Omega.{arith}
 use Rattle.texels_hdr.proofs.hdr_four.Statement.{statement}
 use Rattle.texels_hdr.proofs.hdr_four.Tie as tie
 
 abbrev Inv-loop : tie.InvT-loop
 Inv-loop out₀ n w x map a0 a1 a2 a3 b0 b1 b2 b3 m i₀ out i =
-    (i ≤ eights n) × (out ≡ put (λ (i : ℕ). hdrChannel (anyOf (getD map i 0) a0 a1 a2 a3 0) (anyOf (getD map i 0) b0 b1 b2 b3 0) (getD w (x + i) 0)) 0 i out₀)
+    (i ≤ eights n) × (out ≡ put (hdrAt (record { a = a0; b = a1; c = a2; d = a3 }) (record { a = b0; b = b1; c = b2; d = b3 }) w map x) 0 i out₀)
 
 abbrev μ-loop : tie.MeasureT-loop
 μ-loop out₀ n w x map a0 a1 a2 a3 b0 b1 b2 b3 m i₀ out i = eights n - i
 
-array-read-a0 : tie.Need-array-read-a0 Inv-loop μ-loop
-array-read-a0 c = omega arith
+-- the turn's texel
+turn : (c : tie.In-loop Inv-loop μ-loop) → c .before .loop .i < eights (c .before .before .before .args .n)
+turn c = omega arith
 
-array-read-a1 : tie.Need-array-read-a1 Inv-loop μ-loop
-array-read-a1 c = omega arith
-
-array-read-a2 : tie.Need-array-read-a2 Inv-loop μ-loop
-array-read-a2 c = omega arith
-
-array-read-a3 : tie.Need-array-read-a3 Inv-loop μ-loop
-array-read-a3 c = omega arith
-
-array-read-b0 : tie.Need-array-read-b0 Inv-loop μ-loop
-array-read-b0 c = omega arith
-
-array-read-b1 : tie.Need-array-read-b1 Inv-loop μ-loop
-array-read-b1 c = omega arith
-
-array-read-b2 : tie.Need-array-read-b2 Inv-loop μ-loop
-array-read-b2 c = omega arith
-
-array-read-b3 : tie.Need-array-read-b3 Inv-loop μ-loop
-array-read-b3 c = omega arith
+within : (c : tie.In-loop Inv-loop μ-loop) → c .before .loop .i < mostTexels
+within c = inside (c .before .before .before .args .n) (turn c) (c .before .before .before .pre .0 .0)
 
 eights-requires : tie.Need-eights-requires Inv-loop μ-loop
 eights-requires c κs = omega arith
@@ -49,7 +33,7 @@ loop-holds : tie.Need-loop-holds Inv-loop μ-loop
 loop-holds c = (zero-le, put-none _ 0 _)
 
 element-copy-out-p : tie.Need-element-copy-out-p Inv-loop μ-loop
-element-copy-out-p c = omega arith
+element-copy-out-p c = within c
 
 any-requires : tie.Need-any-requires Inv-loop μ-loop
 any-requires c κs = c .before .before .before .before .pre .1 .1 (c .before .before .loop .i)
@@ -58,38 +42,32 @@ any-requires-2 : tie.Need-any-requires-2 Inv-loop μ-loop
 any-requires-2 c κs = c .before .before .before .before .before .pre .1 .1 (c .before .before .before .loop .i)
 
 add-hdr-channel : tie.Need-add-hdr-channel Inv-loop μ-loop
-add-hdr-channel c = omega arith
+add-hdr-channel c = weight-fits (within (c .before .before .before)) (c .before .before .before .before .before .before .pre .0 .1)
 
 element-copy-out-hdr-channel : tie.Need-element-copy-out-hdr-channel Inv-loop μ-loop
-element-copy-out-hdr-channel c = omega arith
+element-copy-out-hdr-channel c = weight-in (within (c .before .before .before)) (c .before .before .before .before .before .before .pre .0 .1)
 
 hdr-channel-requires : tie.Need-hdr-channel-requires Inv-loop μ-loop
 hdr-channel-requires c κs =
     let s = c .before .before .before .before .before .before .before in
     let i = c .before .before .before .before .before .loop .i in
     let p = getD (s .args .map .now) i 0 in
-    let h = s .pre .1 .1 i in
-    let a = rw (any-entry (s .args .t6) 0 p h) at (c .before .before .any .ensures) in
-    let b = rw (any-entry (s .args .t7) 0 p h) at (c .before .any2 .ensures) in
-    omega (arith, a, b, s .pre .0 .2 p, s .pre .0 .3 p, s .pre .1 .0 (s .args .x + i))
+    (four-wide (s .args .a) p (s .pre .0 .2) (c .before .before .any .ensures), four-wide (s .args .b) p (s .pre .0 .3) (c .before .any2 .ensures), s .pre .1 .0 (s .args .x + i))
 
 element-write-out : tie.Need-element-write-out Inv-loop μ-loop
-element-write-out c = omega arith
+element-write-out c = within (c .before .before .before .before .before)
 
 add-i : tie.Need-add-i Inv-loop μ-loop
-add-i c = omega arith
+add-i c = next-fits (within (c .before .before .before .before .before))
 
 loop-less : tie.Need-loop-less Inv-loop μ-loop
-loop-less c = omega arith
+loop-less c = less-left (turn (c .before .before .before .before .before))
 
 loop-again : tie.Need-loop-again Inv-loop μ-loop
-loop-again c = (omega arith, put-turn _ _ _ _ _ _ (c .before .before .before .before .before .before .loop .inv .1) zero-le (rw (c .before .before .before .any .ensures, c .before .before .any2 .ensures) at (c .hdr-channel .ensures)))
+loop-again c = (next-le (turn (c .before .before .before .before .before)), put-turn _ _ _ _ _ _ (c .before .before .before .before .before .before .loop .inv .1) zero-le (let s = c .before .before .before .before .before .before .before .before in four-is (s .args .a) (s .args .b) (getD (s .args .map .now) (c .before .before .before .before .before .before .loop .i) 0) (getD (s .args .w .now) (s .args .x + c .before .before .before .before .before .before .loop .i) 0) (c .before .before .before .any .ensures) (c .before .before .any2 .ensures) (c .hdr-channel .ensures)))
 
 returns : tie.Need-returns Inv-loop μ-loop
-returns c =
-    let s = c .before .before .before in
-    put-end _ _ _ (eights (s .args .n)) _ _ (c .before .loop .inv .1) (omega arith) (omega arith)
-    ∙ put-same _ _ 0 (eights (s .args .n)) _ (λ i l h. rw (any-entry (s .args .t6) 0 (getD (s .args .map .now) i 0) (s .pre .1 .1 i), any-entry (s .args .t7) 0 (getD (s .args .map .now) i 0) (s .pre .1 .1 i)))
+returns c = put-end _ _ _ _ _ _ (c .before .loop .inv .1) (c .before .loop .inv .0) (omega arith)
 
 pub hdr-four-spec : {M : Type 1} → statement M
 hdr-four-spec =
@@ -97,14 +75,6 @@ hdr-four-spec =
     (tie.spec
     Inv-loop
     μ-loop
-    array-read-a0
-    array-read-a1
-    array-read-a2
-    array-read-a3
-    array-read-b0
-    array-read-b1
-    array-read-b2
-    array-read-b3
     eights-requires
     loop-holds
     element-copy-out-p

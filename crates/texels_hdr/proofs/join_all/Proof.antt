@@ -1,8 +1,10 @@
--- The lanes before 2 * i are those of the texels before i.
+-- `texels_hdr::join_all`: the lanes before 2 * i are those of the texels before i. Assumes nothing.
 use Rattle.texels.specs.PaintLaws.{byte-stores}
 use mathlib.Core.Path.{_≡_, refl}
-use Prim.Native.Nat.{_*_, _-_, _≤_, zero-le}
+use Prim.Native.Nat.{_*_, _-_, _≤_, _<_, zero-le}
 use Rattle.laws.specs.Lists.{put, put-none}
+use Rattle.footprint.specs.Footprints.{mostTexels}
+use Rattle.texels.specs.TurnLaws.{inside, next-fits, next-le, less-left, low-fits, low-in, high-fits, high-in, low-offset, high-offset}
 use Rattle.lanes.specs.Lanes.{laneAt, eights}
 use Rattle.texels_hdr.specs.Channels.{wordAmong}
 use native.Mathlib.Omega.{arith}
@@ -16,6 +18,13 @@ Inv-loop out₀ n r g b a m i₀ out i =
 abbrev μ-loop : tie.MeasureT-loop
 μ-loop out₀ n r g b a m i₀ out i = eights n - i
 
+-- the turn's texel
+turn : (c : tie.In-loop Inv-loop μ-loop) → c .before .loop .i < eights (c .before .before .before .args .n)
+turn c = omega arith
+
+within : (c : tie.In-loop Inv-loop μ-loop) → c .before .loop .i < mostTexels
+within c = inside (c .before .before .before .args .n) (turn c) (c .before .before .before .pre)
+
 eights-requires : tie.Need-eights-requires Inv-loop μ-loop
 eights-requires c κs = omega arith
 
@@ -23,55 +32,55 @@ loop-holds : tie.Need-loop-holds Inv-loop μ-loop
 loop-holds c = (zero-le, put-none _ 0 _)
 
 element-copy-out-joined : tie.Need-element-copy-out-joined Inv-loop μ-loop
-element-copy-out-joined c = omega arith
+element-copy-out-joined c = within c
 
 element-copy-out-joined-2 : tie.Need-element-copy-out-joined-2 Inv-loop μ-loop
-element-copy-out-joined-2 c = omega arith
+element-copy-out-joined-2 c = within (c .before)
 
 joined-requires : tie.Need-joined-requires Inv-loop μ-loop
 joined-requires c κs = omega arith
 
 mul-out : tie.Need-mul-out Inv-loop μ-loop
-mul-out c = omega arith
+mul-out c = low-fits (within (c .before .before .before))
 
 mul-out-2 : tie.Need-mul-out-2 Inv-loop μ-loop
-mul-out-2 c = omega arith
+mul-out-2 c = low-offset (within (c .before .before .before))
 
 element-write-out : tie.Need-element-write-out Inv-loop μ-loop
-element-write-out c = omega arith
+element-write-out c = low-in (within (c .before .before .before))
 
 element-copy-out-joined-3 : tie.Need-element-copy-out-joined-3 Inv-loop μ-loop
-element-copy-out-joined-3 c = omega arith
+element-copy-out-joined-3 c = within (c .before .before .before)
 
 element-copy-out-joined-4 : tie.Need-element-copy-out-joined-4 Inv-loop μ-loop
-element-copy-out-joined-4 c = omega arith
+element-copy-out-joined-4 c = within (c .before .before .before .before)
 
 joined-requires-2 : tie.Need-joined-requires-2 Inv-loop μ-loop
 joined-requires-2 c κs = omega arith
 
 mul-out-3 : tie.Need-mul-out-3 Inv-loop μ-loop
-mul-out-3 c = omega arith
+mul-out-3 c = low-fits (within (c .before .before .before .before .before .before))
 
 add-out : tie.Need-add-out Inv-loop μ-loop
-add-out c = omega arith
+add-out c = high-fits (within (c .before .before .before .before .before .before))
 
 mul-out-4 : tie.Need-mul-out-4 Inv-loop μ-loop
-mul-out-4 c = omega arith
+mul-out-4 c = high-offset (within (c .before .before .before .before .before .before))
 
 element-write-out-2 : tie.Need-element-write-out-2 Inv-loop μ-loop
-element-write-out-2 c = omega arith
+element-write-out-2 c = high-in (within (c .before .before .before .before .before .before))
 
 add-i : tie.Need-add-i Inv-loop μ-loop
-add-i c = omega arith
+add-i c = next-fits (within (c .before .before .before .before .before .before))
 
 loop-less : tie.Need-loop-less Inv-loop μ-loop
-loop-less c = omega arith
+loop-less c = less-left (turn (c .before .before .before .before .before .before))
 
 loop-again : tie.Need-loop-again Inv-loop μ-loop
 loop-again c =
     let low = c .before .before .before .joined .ensures in
     let high = c .joined2 .ensures in
-    (omega arith, byte-stores _ _ _ _ _ _ _ _ _ _ (c .before .before .before .before .before .before .before .loop .inv .1) refl (omega arith) (omega arith) (low .0) (high .0))
+    (next-le (turn (c .before .before .before .before .before .before)), byte-stores _ _ _ _ _ _ _ _ _ _ (c .before .before .before .before .before .before .before .loop .inv .1) refl (omega arith) (omega arith) (low .0) (high .0))
 
 returns : tie.Need-returns Inv-loop μ-loop
 returns c =

@@ -1,7 +1,9 @@
--- The lanes before 2 * i are those of the texels before i.
+-- `texels_ldr::paint_one`: the lanes before 2 * i are those of the texels before i. Assumes nothing.
 use mathlib.Core.Path.{_≡_, refl}
-use Prim.Native.Nat.{_*_, _-_, _≤_, zero-le}
+use Prim.Native.Nat.{_*_, _-_, _≤_, _<_, zero-le}
 use Rattle.laws.specs.Lists.{put, put-none}
+use Rattle.footprint.specs.Footprints.{mostTexels}
+use Rattle.texels.specs.TurnLaws.{inside, next-fits, next-le, less-left, low-fits, low-in, high-fits, high-in, low-offset, high-offset, first-in}
 use Rattle.lanes.specs.Lanes.{laneAt, eights}
 use Rattle.texels_ldr.specs.Plain.{wordOne}
 use Rattle.texels_ldr.specs.LdrLaws.{ldr-stores}
@@ -16,6 +18,13 @@ Inv-loop out₀ n w e m i₀ out i =
 abbrev μ-loop : tie.MeasureT-loop
 μ-loop out₀ n w e m i₀ out i = eights n - i
 
+-- the turn's texel
+turn : (c : tie.In-loop Inv-loop μ-loop) → c .before .loop .i < eights (c .before .before .before .args .n)
+turn c = omega arith
+
+within : (c : tie.In-loop Inv-loop μ-loop) → c .before .loop .i < mostTexels
+within c = inside (c .before .before .before .args .n) (turn c) (c .before .before .before .pre .0 .0)
+
 eights-requires : tie.Need-eights-requires Inv-loop μ-loop
 eights-requires c κs = omega arith
 
@@ -23,7 +32,7 @@ loop-holds : tie.Need-loop-holds Inv-loop μ-loop
 loop-holds c = (zero-le, put-none _ 0 _)
 
 element-copy-out-wide : tie.Need-element-copy-out-wide Inv-loop μ-loop
-element-copy-out-wide c = omega arith
+element-copy-out-wide c = first-in (within c)
 
 wide-requires : tie.Need-wide-requires Inv-loop μ-loop
 wide-requires c κs = omega arith
@@ -32,40 +41,40 @@ pair-requires : tie.Need-pair-requires Inv-loop μ-loop
 pair-requires c κs = omega (arith, c .before .before .before .before .before .pre .1 (c .before .before .before .loop .i))
 
 mul-out : tie.Need-mul-out Inv-loop μ-loop
-mul-out c = omega arith
+mul-out c = low-fits (within (c .before .before .before))
 
 mul-out-2 : tie.Need-mul-out-2 Inv-loop μ-loop
-mul-out-2 c = omega arith
+mul-out-2 c = low-offset (within (c .before .before .before))
 
 element-write-out : tie.Need-element-write-out Inv-loop μ-loop
-element-write-out c = omega arith
+element-write-out c = low-in (within (c .before .before .before))
 
 pair-requires-2 : tie.Need-pair-requires-2 Inv-loop μ-loop
 pair-requires-2 c κs = omega (arith, c .before .before .before .before .before .before .pre .1 (c .before .before .before .before .loop .i))
 
 mul-out-3 : tie.Need-mul-out-3 Inv-loop μ-loop
-mul-out-3 c = omega arith
+mul-out-3 c = low-fits (within (c .before .before .before .before))
 
 add-out : tie.Need-add-out Inv-loop μ-loop
-add-out c = omega arith
+add-out c = high-fits (within (c .before .before .before .before))
 
 mul-out-4 : tie.Need-mul-out-4 Inv-loop μ-loop
-mul-out-4 c = omega arith
+mul-out-4 c = high-offset (within (c .before .before .before .before))
 
 element-write-out-2 : tie.Need-element-write-out-2 Inv-loop μ-loop
-element-write-out-2 c = omega arith
+element-write-out-2 c = high-in (within (c .before .before .before .before))
 
 add-i : tie.Need-add-i Inv-loop μ-loop
-add-i c = omega arith
+add-i c = next-fits (within (c .before .before .before .before))
 
 loop-less : tie.Need-loop-less Inv-loop μ-loop
-loop-less c = omega arith
+loop-less c = less-left (turn (c .before .before .before .before))
 
 loop-again : tie.Need-loop-again Inv-loop μ-loop
 loop-again c =
     let e = c .before .before .wide .ensures .0 in
     let s = c .before .before .before .before .before .before .before in
-    (omega arith, ldr-stores _ (s .args .e) (s .args .e) _ _ _ (s .pre .0 .1) (c .before .before .before .before .before .loop .inv .1) refl refl e e e e (c .before .pair .ensures) (c .pair2 .ensures))
+    (next-le (turn (c .before .before .before .before)), ldr-stores _ (s .args .e) (s .args .e) _ _ _ (s .pre .0 .1) (c .before .before .before .before .before .loop .inv .1) refl refl e e e e (c .before .pair .ensures) (c .pair2 .ensures))
 
 returns : tie.Need-returns Inv-loop μ-loop
 returns c =

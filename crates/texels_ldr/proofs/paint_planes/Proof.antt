@@ -1,7 +1,9 @@
--- The lanes before 2 * i are those of the texels before i.
+-- `texels_ldr::paint_planes`: the lanes before 2 * i are those of the texels before i. Assumes nothing.
 use mathlib.Core.Path.{_≡_, refl}
-use Prim.Native.Nat.{_*_, _-_, _≤_, zero-le}
+use Prim.Native.Nat.{_*_, _-_, _≤_, _<_, zero-le}
 use Rattle.laws.specs.Lists.{put, put-none}
+use Rattle.footprint.specs.Footprints.{mostTexels}
+use Rattle.texels.specs.TurnLaws.{inside, next-fits, next-le, less-left, low-fits, low-in, high-fits, high-in, low-offset, high-offset}
 use Rattle.lanes.specs.Lanes.{laneAt, eights}
 use Rattle.texels.specs.Kinds.{wordAt}
 use Rattle.texels_ldr.specs.LdrLaws.{ldr-stores}
@@ -16,6 +18,13 @@ Inv-loop out₀ n w k e m i₀ out i =
 abbrev μ-loop : tie.MeasureT-loop
 μ-loop out₀ n w k e m i₀ out i = eights n - i
 
+-- the turn's texel
+turn : (c : tie.In-loop Inv-loop μ-loop) → c .before .loop .i < eights (c .before .before .before .args .n)
+turn c = omega arith
+
+within : (c : tie.In-loop Inv-loop μ-loop) → c .before .loop .i < mostTexels
+within c = inside (c .before .before .before .args .n) (turn c) (c .before .before .before .pre .0 .0)
+
 eights-requires : tie.Need-eights-requires Inv-loop μ-loop
 eights-requires c κs = omega arith
 
@@ -23,46 +32,52 @@ loop-holds : tie.Need-loop-holds Inv-loop μ-loop
 loop-holds c = (zero-le, put-none _ 0 _)
 
 weights-at-requires : tie.Need-weights-at-requires Inv-loop μ-loop
-weights-at-requires c κs = let s = c .before .before .before in ((s .pre .0 .1, omega arith), s .pre .1)
+weights-at-requires c κs = let s = c .before .before .before in ((s .pre .0 .1, within c), s .pre .1)
 
 pair-requires : tie.Need-pair-requires Inv-loop μ-loop
-pair-requires c κs = omega arith
+pair-requires c κs =
+    let h = c .before .before .before .before .pre .0 .2 in
+    let l = c .weights-at .ensures .light in
+    (h .b0, h .b1, h .g0, h .g1, l .2, l .1)
 
 mul-out : tie.Need-mul-out Inv-loop μ-loop
-mul-out c = omega arith
+mul-out c = low-fits (within (c .before .before))
 
 mul-out-2 : tie.Need-mul-out-2 Inv-loop μ-loop
-mul-out-2 c = omega arith
+mul-out-2 c = low-offset (within (c .before .before))
 
 element-write-out : tie.Need-element-write-out Inv-loop μ-loop
-element-write-out c = omega arith
+element-write-out c = low-in (within (c .before .before))
 
 pair-requires-2 : tie.Need-pair-requires-2 Inv-loop μ-loop
-pair-requires-2 c κs = omega arith
+pair-requires-2 c κs =
+    let h = c .before .before .before .before .before .pre .0 .2 in
+    let l = c .before .weights-at .ensures .light in
+    (h .r0, h .r1, h .a0, h .a1, l .0, l .3)
 
 mul-out-3 : tie.Need-mul-out-3 Inv-loop μ-loop
-mul-out-3 c = omega arith
+mul-out-3 c = low-fits (within (c .before .before .before))
 
 add-out : tie.Need-add-out Inv-loop μ-loop
-add-out c = omega arith
+add-out c = high-fits (within (c .before .before .before))
 
 mul-out-4 : tie.Need-mul-out-4 Inv-loop μ-loop
-mul-out-4 c = omega arith
+mul-out-4 c = high-offset (within (c .before .before .before))
 
 element-write-out-2 : tie.Need-element-write-out-2 Inv-loop μ-loop
-element-write-out-2 c = omega arith
+element-write-out-2 c = high-in (within (c .before .before .before))
 
 add-i : tie.Need-add-i Inv-loop μ-loop
-add-i c = omega arith
+add-i c = next-fits (within (c .before .before .before))
 
 loop-less : tie.Need-loop-less Inv-loop μ-loop
-loop-less c = omega arith
+loop-less c = less-left (turn (c .before .before .before))
 
 loop-again : tie.Need-loop-again Inv-loop μ-loop
 loop-again c =
     let s = c .before .before .before .before .before .before in
     let v = c .before .before .weights-at .ensures in
-    (omega arith, ldr-stores _ (s .args .e) (s .args .e) _ _ _ (s .pre .0 .2) (c .before .before .before .before .loop .inv .1) refl refl (v .r) (v .g) (v .b) (v .a) (c .before .pair .ensures) (c .pair2 .ensures))
+    (next-le (turn (c .before .before .before)), ldr-stores _ (s .args .e) (s .args .e) _ _ _ (s .pre .0 .2) (c .before .before .before .before .loop .inv .1) refl refl (v .r) (v .g) (v .b) (v .a) (c .before .pair .ensures) (c .pair2 .ensures))
 
 returns : tie.Need-returns Inv-loop μ-loop
 returns c =

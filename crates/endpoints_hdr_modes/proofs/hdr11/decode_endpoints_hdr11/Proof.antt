@@ -1,13 +1,17 @@
--- The major component chooses the case; the colours are the closed forms.
+-- `endpoints_hdr_modes::decode_endpoints_hdr11`: the major component chooses the case, and the colours are the closed forms. Assumes nothing.
 use mathlib.Core.Path.{_∙_}
-use Prim.Native.Nat.{_<_}
+use lib.Dec.{lit≤}
 use native.Mathlib.Omega.{arith}
-use borrow.Author.Tests.{eq-eqb, ne-eqb}
+use borrow.Author.Tests.{eq-eqb}
 use Rattle.endpoints_rules.specs.Hdr11.{elevenMode, elevenMajor, hdr11}
-use Rattle.endpoints_hdr.specs.Hdr11Laws.{base-small, first-is, second-is}
+use Rattle.endpoints_hdr_modes.specs.ElevenLaws.{Bytes, mode-lt, eleven-out}
+use Rattle.endpoints_hdr.specs.BitLaws.{fits, under, low-7, times-fits}
 use borrow.Author.Needs.{needs}
 use Rattle.endpoints_hdr_modes.proofs.hdr11.decode_endpoints_hdr11.Statement.{statement}
 use Rattle.endpoints_hdr_modes.proofs.hdr11.decode_endpoints_hdr11.Tie as tie
+
+bytes : (c : tie.Start) → Bytes (c .args .v)
+bytes c = record { v0 = omega arith; v1 = omega arith; v2 = omega arith; v3 = omega arith; v4 = omega arith; v5 = omega arith }
 
 mul-major : tie.Need-mul-major
 mul-major c = search needs
@@ -16,43 +20,43 @@ add-major : tie.Need-add-major
 add-major c = search needs
 
 cast-rgb-of : tie.Need-cast-rgb-of
-cast-rgb-of c = search needs
+cast-rgb-of c = fits 255 (under (bytes (c .before .before .before .before) .v0)) (lit≤ tt)
 
 mul-rgb-of : tie.Need-mul-rgb-of
-mul-rgb-of c = search needs
+mul-rgb-of c = times-fits 255 16 (under (bytes (c .before .before .before .before) .v0)) (lit≤ tt)
 
 cast-rgb-of-2 : tie.Need-cast-rgb-of-2
-cast-rgb-of-2 c = search needs
+cast-rgb-of-2 c = fits 255 (under (bytes (c .before .before .before .before .before) .v2)) (lit≤ tt)
 
 mul-rgb-of-2 : tie.Need-mul-rgb-of-2
-mul-rgb-of-2 c = search needs
+mul-rgb-of-2 c = times-fits 255 16 (under (bytes (c .before .before .before .before .before) .v2)) (lit≤ tt)
 
 cast-rgb-of-3 : tie.Need-cast-rgb-of-3
-cast-rgb-of-3 c = search needs
+cast-rgb-of-3 c = fits 255 (under (bytes (c .before .before .before .before .before .before) .v4)) (lit≤ tt)
 
 mul-rgb-of-3 : tie.Need-mul-rgb-of-3
-mul-rgb-of-3 c = search needs
+mul-rgb-of-3 c = times-fits 127 32 (low-7 _) (lit≤ tt)
 
 rgb-of-requires : tie.Need-rgb-of-requires
 rgb-of-requires c κs = search needs
 
 cast-rgb-of-4 : tie.Need-cast-rgb-of-4
-cast-rgb-of-4 c = search needs
+cast-rgb-of-4 c = fits 255 (under (bytes (c .before .before .before .before .before .before .before .before) .v1)) (lit≤ tt)
 
 mul-rgb-of-4 : tie.Need-mul-rgb-of-4
-mul-rgb-of-4 c = search needs
+mul-rgb-of-4 c = times-fits 255 16 (under (bytes (c .before .before .before .before .before .before .before .before) .v1)) (lit≤ tt)
 
 cast-rgb-of-5 : tie.Need-cast-rgb-of-5
-cast-rgb-of-5 c = search needs
+cast-rgb-of-5 c = fits 255 (under (bytes (c .before .before .before .before .before .before .before .before .before) .v3)) (lit≤ tt)
 
 mul-rgb-of-5 : tie.Need-mul-rgb-of-5
-mul-rgb-of-5 c = search needs
+mul-rgb-of-5 c = times-fits 255 16 (under (bytes (c .before .before .before .before .before .before .before .before .before) .v3)) (lit≤ tt)
 
 cast-rgb-of-6 : tie.Need-cast-rgb-of-6
-cast-rgb-of-6 c = search needs
+cast-rgb-of-6 c = fits 255 (under (bytes (c .before .before .before .before .before .before .before .before .before .before) .v5)) (lit≤ tt)
 
 mul-rgb-of-6 : tie.Need-mul-rgb-of-6
-mul-rgb-of-6 c = search needs
+mul-rgb-of-6 c = times-fits 127 32 (low-7 _) (lit≤ tt)
 
 rgb-of-requires-2 : tie.Need-rgb-of-requires-2
 rgb-of-requires-2 c κs = search needs
@@ -77,7 +81,7 @@ add-parts-of-eleven-2 : tie.Need-add-parts-of-eleven-2
 add-parts-of-eleven-2 c = search needs
 
 parts-of-eleven-requires : tie.Need-parts-of-eleven-requires
-parts-of-eleven-requires c κs = search needs
+parts-of-eleven-requires c κs = mode-lt _ (bytes (c .before .before .before .before .before .before))
 
 first-eleven-requires : tie.Need-first-eleven-requires
 first-eleven-requires c κs = search needs
@@ -95,15 +99,8 @@ set-endpoint-hdr-requires-2 : tie.Need-set-endpoint-hdr-requires-2
 set-endpoint-hdr-requires-2 c κs = search needs
 
 returns-2 : tie.Need-returns-2
-unfolding hdr11 elevenMajor elevenMode
 returns-2 c =
-    let v = c .before .before .before .before .before .before .before .before .before .before .before .before .args .v in
-    let m = elevenMode v in
-    let bytes = c .before .before .before .before .before .before in
-    let l : m < 8 = omega (arith, bytes) in
-    let s = base-small v (omega (arith, bytes)) m l in
-    c .set-endpoint-hdr2 .ensures
-    ∙ rw (c .before .swap2 .ensures, c .before .before .second-eleven .ensures, c .before .before .before .swap .ensures, c .before .before .before .before .first-eleven .ensures, c .before .before .before .before .before .parts-of-eleven .ensures .0, ne-eqb _ _ (c .before .before .before .before .before .before .before .before .before .if1 .left), first-is m v l s, second-is m v l s)
+    eleven-out _ _ _ _ _ _ _ _ (bytes (c .before .before .before .before .before .before .before .before .before .before .before .before)) (c .before .before .before .before .before .before .before .before .before .if1 .left) (c .before .before .before .before .before .parts-of-eleven .ensures .0) (c .before .before .before .before .first-eleven .ensures) (c .before .before .before .swap .ensures) (c .before .before .second-eleven .ensures) (c .before .swap2 .ensures) (c .set-endpoint-hdr2 .ensures)
 
 pub decode-endpoints-hdr11-spec : {M : Type 1} → statement M
 decode-endpoints-hdr11-spec =
