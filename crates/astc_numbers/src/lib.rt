@@ -6,8 +6,8 @@ ghost use Rattle.laws.specs.Lists.{put};
 ghost use Rattle.block_map.specs.Answer.{blockMap};
 ghost use Rattle.block_map.specs.AnswerLaws.{Small};
 ghost use Rattle.astc_numbers.specs.Numbers.{numbersOf, mapAnswerIn, mapIn, ledTo};
-use params_map::BlockMap;
 use footprint::Footprint;
+use params_map::BlockMap;
 
 fn numbers_of(m: BlockMap) -> [u32; 9]
     requires { ⌜ Small m ⌝ }
