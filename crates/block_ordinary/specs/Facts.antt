@@ -15,7 +15,7 @@ use Rattle.footprint.specs.declared.Footprint.{Footprint}
 use Rattle.params_modes.specs.Modes.{classIn, modesOf, valuesTo}
 use Rattle.params_modes.specs.ModeLaws.{modes-lt, mode-is, mode-class}
 use Rattle.params_config.specs.Ranges.{cost}
-use Rattle.params_config.specs.Config.{partsOf, modeBase, configOf}
+use Rattle.params_config.specs.Config.{partsOf, modeBase, partitionsOf, configOf}
 use Rattle.params_config.specs.Bounds.{small}
 use Rattle.params_rules.specs.Fields.{fieldsOf, answer}
 use Rattle.params_rules.specs.FieldLaws.{ordinary}
@@ -61,7 +61,7 @@ pub record Ready (p : Params) (foot : Footprint) : Type 0 where
   pub sides : Sides foot
 
 pub ready : (p : Params) (v : ℕ) (foot : Footprint) → p ≡ paramsOf v foot → p .answer ≡ 0 → listed foot ≡ true → Ready p foot
-unfolding legal configOf cost
+unfolding legal configOf partitionsOf cost
 ready p v foot e z s =
     let t = fieldsOf v in
     let a : answer t foot ≡ 0 = sym (answer-is t foot) ∙ ap (λ (q : Params). q .answer) (sym e) ∙ z in

@@ -19,3 +19,54 @@ Inv-loop «data» m first end out₀ tables lanes₀ across at₀ bad₀ out lan
 
 abbrev μ-loop : tie.MeasureT-loop
 μ-loop «data» m first end out₀ tables lanes₀ across at₀ bad₀ out lanes at bad = end - at .block
+
+make-tables-requires : tie.Need-make-tables-requires Inv-loop μ-loop
+make-tables-requires c κs = search needs
+
+along-requires : tie.Need-along-requires Inv-loop μ-loop
+along-requires c κs = ?
+
+loop-holds : tie.Need-loop-holds Inv-loop μ-loop
+loop-holds c = ?
+
+paint-block-requires : tie.Need-paint-block-requires Inv-loop μ-loop
+paint-block-requires c κs = ?
+
+bad-of-requires : tie.Need-bad-of-requires Inv-loop μ-loop
+bad-of-requires c κs = search needs
+
+add-bad : tie.Need-add-bad Inv-loop μ-loop
+add-bad c = ?
+
+next-requires : tie.Need-next-requires Inv-loop μ-loop
+next-requires c κs = ?
+
+loop-less : tie.Need-loop-less Inv-loop μ-loop
+loop-less c = ?
+
+loop-again : tie.Need-loop-again Inv-loop μ-loop
+loop-again c = ?
+
+same-length : tie.Need-same-length Inv-loop μ-loop
+same-length c = ?
+
+returns : tie.Need-returns Inv-loop μ-loop
+returns c = ?
+
+pub paint-blocks-spec : {M : Type 1} → statement M
+paint-blocks-spec =
+    tie.close
+    (tie.spec
+    Inv-loop
+    μ-loop
+    make-tables-requires
+    along-requires
+    loop-holds
+    paint-block-requires
+    bad-of-requires
+    add-bad
+    next-requires
+    loop-less
+    loop-again
+    same-length
+    returns)
