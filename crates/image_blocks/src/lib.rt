@@ -1,13 +1,13 @@
 // The blocks of an image, painted one after the other by what the block promises.
 ghost use mathlib.Core.Path.{_≡_};
 ghost use mathlib.Core.Bool.{cond};
-ghost use Prim.Native.Nat.{_+_, _-_, _≤_, _<_};
+ghost use Prim.Native.Nat.{_+_, _-_, _^_, _≤_, _<_};
 ghost use lib.ListN.{length};
 ghost use Rattle.answers.specs.Answers.{isBad};
 ghost use Rattle.lanes.specs.Lanes.{mostLanes};
 ghost use Rattle.block_ordinary.specs.Facts.{Lent};
 ghost use Rattle.block_map.specs.Answer.{mapAnswer};
-ghost use Rattle.image_shape.specs.Shapes.{acrossOf, totalOf, bytesOf};
+ghost use Rattle.image_shape.specs.Shapes.{totalOf, bytesOf};
 ghost use Rattle.image_shape.specs.ShapeLaws.{Sized};
 ghost use Rattle.image_blocks.specs.Painted.{paintedBlocks, badIn};
 ghost use Rattle.image_blocks.specs.Spots.{At, nextOf};
@@ -23,7 +23,7 @@ pub struct Spot {
 
 // The block after it, in rows of so many.
 fn next(at: Spot, across: usize) -> Spot
-    requires { ⌜ (at .block < 16867449) × ((at .column < across) × ((across ≤ 4107) × (at .row ≤ at .block))) ⌝ }
+    requires { ⌜ (at .block + 1 < 2 ^ 64) × ((at .row ≤ at .block) × (at .column < across)) ⌝ }
     ensures { λ r. ⌜ r ≡ nextOf at across ⌝ }
 {
     if at.column + 1 == across {

@@ -6,6 +6,8 @@ use Rattle.block.specs.OutcomeLaws.{lent}
 use Rattle.image_shape.specs.Shapes.{totalOf}
 use Rattle.image_shape.specs.ShapeLaws.{sized-bounded, same-sized}
 use Rattle.image_window.specs.Places.{some}
+use Rattle.image_blocks.specs.Spots.{next-block}
+use Rattle.image_blocks.specs.declared.Spot.{Spot}
 use Rattle.image_blocks.specs.PaintedLaws.{Painting, painting-first, painting-next, painting-last, length-painted}
 use Prim.Native.Nat.{_-_, _<_}
 use mathlib.Core.Path.{refl, ap, _∙_}
@@ -24,34 +26,53 @@ make-tables-requires : tie.Need-make-tables-requires Inv-loop μ-loop
 make-tables-requires c κs = search needs
 
 along-requires : tie.Need-along-requires Inv-loop μ-loop
-along-requires c κs = ?
+along-requires c κs =
+    let bounded = sized-bounded _ _ _ (c .before .before .before .pre .0) in
+    (bounded .width .1, (bounded .sides .column, bounded .sides .width))
+
+rem-t12 : tie.Need-rem-t12 Inv-loop μ-loop
+rem-t12 c = omega (arith, c .along .ensures .0, some _ (sized-bounded _ _ _ (c .before .before .before .before .pre .0)))
+
+div-t13 : tie.Need-div-t13 Inv-loop μ-loop
+div-t13 c = omega (arith, c .along .ensures .0, some _ (sized-bounded _ _ _ (c .before .before .before .before .pre .0)))
 
 loop-holds : tie.Need-loop-holds Inv-loop μ-loop
-loop-holds c = ?
+loop-holds c =
+    let start = c .before .before .before .before in
+    painting-first _ _ (start .args .first) _ _ _ _ (sized-bounded _ _ _ (start .pre .0)) (start .pre .1 .0) (c .along .ensures .0) (c .along .ensures .1) refl
 
 paint-block-requires : tie.Need-paint-block-requires Inv-loop μ-loop
-paint-block-requires c κs = ?
+paint-block-requires c κs =
+    let turn = c .before .before .before .before .before .before .before .before .loop in
+    let start = c .before .before .before .before .before .before .before .before .before .before .before .before .before in
+    let inside : turn .at .block < totalOf (start .args .m) = omega (arith, start .pre .1 .1) in
+    (lent _ (c .before .before .before .before .before .before .before .before .before .before .make-tables .ensures), (same-sized _ _ _ _ (start .pre .0) (ap length (turn .inv .painted) ∙ length-painted _ _ _ _ _), (inside, (turn .inv .place, turn .inv .room))))
 
 bad-of-requires : tie.Need-bad-of-requires Inv-loop μ-loop
 bad-of-requires c κs = search needs
 
 add-bad : tie.Need-add-bad Inv-loop μ-loop
-add-bad c = ?
+add-bad c = omega (arith, c .before .before .before .before .before .before .before .before .before .before .before .before .loop .inv .few, c .bad-of .ensures .1)
 
 next-requires : tie.Need-next-requires Inv-loop μ-loop
-next-requires c κs = ?
+next-requires c κs =
+    let turn = c .before .before .before .before .before .before .before .before .before .before .before .before .loop in
+    (omega arith, (turn .inv .place .row, omega (arith, turn .inv .rows, turn .inv .place .column)))
 
 loop-less : tie.Need-loop-less Inv-loop μ-loop
-loop-less c = ?
+loop-less c = omega (arith, ap (λ (at : Spot). at .block) (c .next .ensures) ∙ next-block _ _)
 
 loop-again : tie.Need-loop-again Inv-loop μ-loop
-loop-again c = ?
+loop-again c =
+    let turn = c .before .before .before .before .before .before .before .before .before .before .before .before .before .loop in
+    let start = c .before .before .before .before .before .before .before .before .before .before .before .before .before .before .before .before .before .before in
+    painting-next _ _ _ _ _ _ _ _ _ _ (turn .inv) _ _ _ _ _ (sized-bounded _ _ _ (start .pre .0)) (omega arith) (c .next .ensures) (c .before .bad-of .ensures) (c .before .before .before .before .paint-block .ensures)
 
 same-length : tie.Need-same-length Inv-loop μ-loop
-same-length c = ?
+same-length c = ap length (c .before .before .loop .inv .painted) ∙ length-painted _ _ _ _ _
 
 returns : tie.Need-returns Inv-loop μ-loop
-returns c = ?
+returns c = painting-last _ _ _ _ _ _ _ _ _ _ (c .before .before .loop .inv) (omega arith)
 
 pub paint-blocks-spec : {M : Type 1} → statement M
 paint-blocks-spec =
@@ -61,6 +82,8 @@ paint-blocks-spec =
     μ-loop
     make-tables-requires
     along-requires
+    rem-t12
+    div-t13
     loop-holds
     paint-block-requires
     bad-of-requires
