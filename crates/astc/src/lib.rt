@@ -12,32 +12,16 @@ use footprint::Footprint;
 use image::Cursor;
 use image_shape::Shape;
 
-fn sized(bw: usize, bh: usize) -> Footprint
-    ensures { λ r. ⌜ r ≡ footprint bw bh ⌝ }
-{
-    Footprint {
-        width: bw,
-        height: bh,
-    }
-}
-
-fn shaped(width: usize, height: usize, bw: usize, bh: usize) -> Shape
-    ensures { λ r. ⌜ r ≡ shape width height bw bh ⌝ }
-{
-    let footprint = sized(bw, bh);
-    Shape {
-        width,
-        height,
-        footprint,
-    }
-}
-
 // uint32_t astc_decode_block(const uint8_t *block, size_t block_len, size_t bw, size_t bh, uint32_t *out, size_t out_len)
 #[no_mangle]
 pub extern "C" fn astc_decode_block(block: &[u8], bw: usize, bh: usize, out: &mut [u32]) -> u32
     ensures { λ a. ⌜ (a ≡ answerOf (now (block .entry)) (footprint bw bh) (length (now (out .entry)))) × (now (out .exit) ≡ paintedOf (now (block .entry)) (footprint bw bh) (now (out .entry))) ⌝ }
 {
-    block::decode_astc_block(block, sized(bw, bh), out) as u32
+    let f = Footprint {
+        width: bw,
+        height: bh,
+    };
+    block::decode_astc_block(block, f, out) as u32
 }
 
 // uint32_t astc_block_map(const uint8_t *block, size_t block_len, size_t bw, size_t bh, uint32_t *map, size_t map_len)
@@ -45,7 +29,11 @@ pub extern "C" fn astc_decode_block(block: &[u8], bw: usize, bh: usize, out: &mu
 pub extern "C" fn astc_block_map(block: &[u8], bw: usize, bh: usize, map: &mut [u32]) -> u32
     ensures { λ a. ⌜ (a ≡ mapAnswerIn (blockMap (now (block .entry)) (footprint bw bh)) (length (now (map .entry)))) × (now (map .exit) ≡ mapIn (blockMap (now (block .entry)) (footprint bw bh)) (now (map .entry))) ⌝ }
 {
-    astc_numbers::put_map(block, sized(bw, bh), map) as u32
+    let f = Footprint {
+        width: bw,
+        height: bh,
+    };
+    astc_numbers::put_map(block, f, map) as u32
 }
 
 // uint32_t astc_decode_image(const uint8_t *data, size_t data_len, size_t width, size_t height, size_t bw, size_t bh, uint32_t *out,
@@ -61,7 +49,16 @@ pub extern "C" fn astc_decode_image(
 ) -> u32
     ensures { λ a. ⌜ (a ≡ refusalOf (shape width height bw bh) (length (now («data» .entry))) (length (now (out .entry)))) × (now (out .exit) ≡ imageOf (now («data» .entry)) (shape width height bw bh) (now (out .entry))) ⌝ }
 {
-    image::decode_astc(data, shaped(width, height, bw, bh), out) as u32
+    let footprint = Footprint {
+        width: bw,
+        height: bh,
+    };
+    let m = Shape {
+        width,
+        height,
+        footprint,
+    };
+    image::decode_astc(data, m, out) as u32
 }
 
 // uint32_t astc_image_step(const uint8_t *data, size_t data_len, size_t width, size_t height, size_t bw, size_t bh, size_t next,
@@ -80,7 +77,15 @@ pub extern "C" fn astc_image_step(
 ) -> u32
     ensures { λ a. ⌜ (a ≡ stepAnswerIn (cursor width height bw bh next) (length (now («data» .entry))) blocks (length (now (out .entry))) (length (now (moved .entry)))) × ((now (out .exit) ≡ steppedIn (now («data» .entry)) (cursor width height bw bh next) blocks (length (now (moved .entry))) (now (out .entry))) × (now (moved .exit) ≡ movedIn (now («data» .entry)) (cursor width height bw bh next) blocks (length (now (out .entry))) (now (moved .entry)))) ⌝ }
 {
-    let shape = shaped(width, height, bw, bh);
+    let footprint = Footprint {
+        width: bw,
+        height: bh,
+    };
+    let shape = Shape {
+        width,
+        height,
+        footprint,
+    };
     if moved.len() < 3 {
         let a = image_shape::refusal(shape, data.len(), out.len());
         if a == 0 {

@@ -1,4 +1,4 @@
--- The record is the definition's.
+-- `image::refused`: the record is the definition's. Assumes nothing.
 use Rattle.image.specs.Image.{refusedAt}
 use mathlib.Core.Path.{refl}
 use Rattle.image.proofs.refused.Statement.{statement}
