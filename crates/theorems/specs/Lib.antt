@@ -2,5 +2,4 @@ pub mod Demands
 pub mod DemandLaws
 pub mod Kinds
 pub mod Values
-pub mod Steps
 pub mod Tight
