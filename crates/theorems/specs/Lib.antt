@@ -2,4 +2,6 @@ pub mod Demands
 pub mod DemandLaws
 pub mod Kinds
 pub mod Values
+pub mod Steps
 pub mod Tight
+pub mod TightImage
