@@ -4,44 +4,50 @@ use mathlib.Core.Path.{_≡_, refl, sym, ap, _∙_}
 use mathlib.Core.Bool.{cond}
 use mathlib.Core.List.{List}
 use mathlib.Core.Logic.{⊎-elim}
-use Prim.Native.Nat.{ℕ, zero, suc, _-_, _*_, _≤_, _<_}
+use Prim.Native.Nat.{ℕ, zero, suc, _≤_, _<_}
 use native.Mathlib.Omega.{arith}
 use lib.Dec.{ltb}
 use lib.ListN.{getD, length}
 use borrow.Author.Tests.{eq-eqb, lt-ltb, le-ltb}
 use Rattle.laws.specs.Lists.{put-same}
-use Rattle.bits.specs.Bits.{bitsAt, bytes, reversed}
-use Rattle.bits.specs.BitLaws.{reversed-top}
-use Rattle.params.specs.Blocks.{answer, lowOf, legal, mapOf, paramsOf}
-use Rattle.params.specs.Laws.{Fields, Mapped, SameBlock, map-fields, range-is, answer-is, legal-is, unmapped}
-use Rattle.params.specs.declared.Map.{Map}
+use Rattle.bits.specs.Bits.{bitsAt, bytes}
+use Rattle.params_rules.specs.Fields.{fieldsOf, answer}
+use Rattle.params_rules.specs.FieldLaws.{ordinary}
+use Rattle.params_room.specs.RoomLaws.{range-is}
+use Rattle.params_map.specs.Map.{legalMap, mapOf}
+use Rattle.params_map.specs.MapLaws.{InOrder, Mapped, map-legal, in-order}
+use Rattle.params_map.specs.declared.BlockMap.{BlockMap}
+use Rattle.params.specs.Params.{legal, paramsOf, endsField, weightsField}
+use Rattle.params.specs.Laws.{SameParams, answer-is, legal-is, one-answer, local}
 use Rattle.params.specs.declared.Params.{Params}
+use Rattle.endpoints_colours.specs.Colours.{markOf, firstOf, secondOf}
 use Rattle.endpoints_colours.specs.Bounds.{limit, Within as EndsWithin}
 use Rattle.endpoints_colours.specs.declared.Mark.{Mark}
 use Rattle.endpoints_colours.specs.declared.Mark.the-variants.{Ldr}
 use Rattle.endpoints_colours.specs.declared.Endpoints.{Endpoints}
 use Rattle.blend.specs.BlendLaws.{Within, ldr-within}
-use Rattle.texels.specs.Texels.{channelBy, wordBy, texelWord}
-use Rattle.texels.specs.PaintLaws.{channel-byte, low-half, high-half, limit-of}
+use Rattle.texels.specs.Texels.{channelBy, wordBy}
+use Rattle.texels.specs.TexelLaws.{texel-is}
+use Rattle.texels.specs.PaintLaws.{channel-byte, low-lane, high-lane, limit-of}
 use Rattle.footprint.specs.Footprints.{texelsOf}
 use Rattle.footprint.specs.declared.Footprint.{Footprint}
-use Rattle.block_ordinary.specs.Ordinary.{endsField, weightsField, ordinaryWord}
+use Rattle.block_ordinary.specs.Ordinary.{ordinaryWord}
 use Rattle.block_ordinary.specs.Facts.{Facts, ready}
 use Rattle.block_ordinary.specs.Parts.{ends-within, weights-light}
-use Rattle.block_map.specs.Answer.{answerOf, mapAnswer, reportOf, blockMap}
-use Rattle.block_map.specs.MapLaws.{LegalMap, legal-map}
+use Rattle.block_map.specs.Answer.{answerOf, mapAnswer, blockMap}
+use Rattle.block_map.specs.AnswerLaws.{LegalMap, legal-map}
 use Rattle.block.specs.Block.{wordOfParams, blockWord, wordAt, paintedOf}
-use Rattle.theorems.specs.Demands.{In, WidestRange, channelIn, markOf, firstOf, secondOf, infilled, endsAt, Bounded}
+use Rattle.theorems.specs.Demands.{In, WidestRange, channelIn, infilled, endsAt, Bounded}
 
 -- ---- the fields stand one after the other
-module _ (m : Map) (f : Fields m) where
+module _ (m : BlockMap) (f : InOrder m) where
   -- the field in which bit k stands, if any
   fieldAt : ℕ → ℕ
   fieldAt k = cond (ltb k (m .endat)) 0 (cond (ltb k (m .extraat)) 1 (cond (ltb k (m .weightat)) 2 3))
 
-  field-is : (i k : ℕ) → In (reportOf 0 m) i k → i ≡ fieldAt k
-  unfolding reportOf fieldAt
-  field-is zero k h = rw (lt-ltb k (m .endat) (omega (arith, f .ends, h .1)))
+  field-is : (i k : ℕ) → In m i k → i ≡ fieldAt k
+  unfolding fieldAt
+  field-is zero k h = rw (lt-ltb k (m .endat) (omega (arith, f .first, f .ends, h .1)))
   field-is (suc zero) k h = rw (le-ltb k (m .endat) (h .0), lt-ltb k (m .extraat) (omega (arith, f .extra, h .1)))
   field-is (suc (suc zero)) k h =
       rw (le-ltb k (m .endat) (omega (arith, f .extra, h .0)), le-ltb k (m .extraat) (h .0), lt-ltb k (m .weightat) (omega (arith, f .weights, h .1)))
@@ -52,21 +58,21 @@ module _ (m : Map) (f : Fields m) where
       no : k < 0 → ⊥
       no l = omega arith
 
-  field-within : (i k : ℕ) → In (reportOf 0 m) i k → k < 128
-  unfolding reportOf
-  field-within zero k h = omega (arith, f .ends, f .extra, f .weights, f .last, h .1)
+  field-within : (i k : ℕ) → In m i k → k < 128
+  field-within zero k h = omega (arith, f .first, f .ends, f .extra, f .weights, f .last, h .1)
   field-within (suc zero) k h = omega (arith, f .extra, f .weights, f .last, h .1)
   field-within (suc (suc zero)) k h = omega (arith, f .weights, f .last, h .1)
   field-within (suc (suc (suc zero))) k h = omega (arith, f .last, h .1)
   field-within (suc (suc (suc (suc i)))) k h = omega (arith, h .1)
 
 -- ---- the range
-range-fits : (v : ℕ) (foot : Footprint) → paramsOf v foot .answer ≡ 0 → WidestRange (reportOf 0 (paramsOf v foot .map)) (paramsOf v foot .config .values) (paramsOf v foot .range)
-unfolding legal mapOf reportOf
+range-fits : (v : ℕ) (foot : Footprint) → paramsOf v foot .answer ≡ 0 → WidestRange (mapOf v foot) (paramsOf v foot .config .values) (paramsOf v foot .range)
+unfolding legal legalMap
 range-fits v foot e =
-    let a : answer (lowOf v) foot ≡ 0 = sym (answer-is v foot) ∙ e in
-    let w = range-is (lowOf v) foot a in
-    rw (legal-is v foot a)
+    let t = fieldsOf v in
+    let a : answer t foot ≡ 0 = sym (answer-is t foot) ∙ e in
+    let w = range-is _ foot (ordinary t foot a .rules) in
+    rw (map-legal t foot a, legal-is t foot a)
     (record {
       least = w .least;
       most = w .most;
@@ -87,19 +93,19 @@ ldr-channel m e0 e1 w p h l k =
 module _ (e : Endpoints) (r g b a : ℕ) where
   red-of : channelIn (wordBy e r g b a) 0 ≡ channelBy (e .color) (e .r0) (e .r1) r
   unfolding bitsAt
-  red-of = omega (arith, high-half e r g b a, channel-byte (e .color) (e .r0) (e .r1) r)
+  red-of = omega (arith, high-lane e r g b a, channel-byte (e .color) (e .r0) (e .r1) r)
 
   green-of : channelIn (wordBy e r g b a) 1 ≡ channelBy (e .color) (e .g0) (e .g1) g
   unfolding bitsAt
-  green-of = omega (arith, low-half e r g b a, channel-byte (e .color) (e .b0) (e .b1) b, channel-byte (e .color) (e .g0) (e .g1) g)
+  green-of = omega (arith, low-lane e r g b a, channel-byte (e .color) (e .b0) (e .b1) b, channel-byte (e .color) (e .g0) (e .g1) g)
 
   blue-of : channelIn (wordBy e r g b a) 2 ≡ channelBy (e .color) (e .b0) (e .b1) b
   unfolding bitsAt
-  blue-of = omega (arith, low-half e r g b a, channel-byte (e .color) (e .b0) (e .b1) b)
+  blue-of = omega (arith, low-lane e r g b a, channel-byte (e .color) (e .b0) (e .b1) b)
 
   alpha-of : channelIn (wordBy e r g b a) 3 ≡ channelBy (e .alpha) (e .a0) (e .a1) a
   unfolding bitsAt
-  alpha-of = omega (arith, high-half e r g b a, channel-byte (e .color) (e .r0) (e .r1) r, channel-byte (e .alpha) (e .a0) (e .a1) a)
+  alpha-of = omega (arith, high-lane e r g b a, channel-byte (e .color) (e .r0) (e .r1) r, channel-byte (e .alpha) (e .a0) (e .a1) a)
 
   between-ends : EndsWithin e → r ≤ 64 → g ≤ 64 → b ≤ 64 → a ≤ 64 → (c : ℕ) → c < 4 → markOf e c ≡ Ldr → Within (firstOf e c) (secondOf e c) (channelIn (wordBy e r g b a) c)
   between-ends w hr hg hb ha zero l m = rw red-of (ldr-channel (e .color) _ _ r m (w .r0) (w .r1) hr)
@@ -122,53 +128,48 @@ block-word v foot t z = legal-word (paramsOf v foot) v foot t z
 
 channels-within : (s : List ℕ) (foot : Footprint) → paramsOf (bytes 16 s) foot .answer ≡ 0 → Facts (paramsOf (bytes 16 s) foot) → (t c : ℕ) → c < 4 → markOf (endsAt s foot t) c ≡ Ldr
     → Within (firstOf (endsAt s foot t) c) (secondOf (endsAt s foot t) c) (channelIn (wordAt s foot t) c)
-unfolding wordAt ordinaryWord texelWord
+unfolding wordAt ordinaryWord
 channels-within s foot z f t c h m =
     let p = paramsOf (bytes 16 s) foot in
-    let w : (i : ℕ) → getD (infilled s foot) i 0 ≤ 64 = weights-light p foot f (weightsField (p .map) (bytes 16 s)) in
-    rw (block-word (bytes 16 s) foot t z)
-    (between-ends (endsAt s foot t) _ _ _ _ (ends-within p foot f (endsField (p .map) (bytes 16 s)) _) (w _) (w _) (w _) (w _) c h m)
+    let w : (i : ℕ) → getD (infilled s foot) i 0 ≤ 64 = weights-light p foot f (weightsField p (bytes 16 s)) in
+    rw (block-word (bytes 16 s) foot t z, texel-is (p .config .planes) (p .channel) _ _ _ t)
+    (between-ends (endsAt s foot t) _ _ _ _ (ends-within p foot f (endsField p (bytes 16 s)) _) (w _) (w _) (w _) (w _) c h m)
 
 -- ---- locality
-ordinary-same : (p : Params) (v w : ℕ) (foot : Footprint) (t : ℕ) → endsField (p .map) v ≡ endsField (p .map) w → weightsField (p .map) v ≡ weightsField (p .map) w → ordinaryWord p v foot t ≡ ordinaryWord p w foot t
+ordinary-same : (p : Params) (v w : ℕ) (foot : Footprint) (t : ℕ) → endsField p v ≡ endsField p w → weightsField p v ≡ weightsField p w → ordinaryWord p v foot t ≡ ordinaryWord p w foot t
 unfolding ordinaryWord
 ordinary-same p v w foot t e f = rw (e, f)
 
--- the weights are read from the block's top downwards
-weights-same : (m : Map) (v w : ℕ) → Fields m → bitsAt v (m .weightat) (m .weightlen) ≡ bitsAt w (m .weightat) (m .weightlen) → weightsField m v ≡ weightsField m w
-weights-same m v w f e =
-    let l : m .weightlen ≤ 128 = omega (arith, f .last) in
-    let a : m .weightat ≡ 128 - m .weightlen = omega (arith, f .last) in
-    reversed-top 128 (m .weightlen) v l ∙ ap (reversed (m .weightlen)) (rw a at e) ∙ sym (reversed-top 128 (m .weightlen) w l)
-
-word-same : (v w : ℕ) (foot : Footprint) (t : ℕ) → paramsOf v foot .answer ≡ 0 → SameBlock v w foot → blockWord v foot t ≡ blockWord w foot t
+word-same : (v w : ℕ) (foot : Footprint) (t : ℕ) → paramsOf v foot .answer ≡ 0 → SameParams v w foot → blockWord v foot t ≡ blockWord w foot t
 word-same v w foot t z b =
     let p = paramsOf v foot in
     let y : paramsOf w foot .answer ≡ 0 = rw (b .params) at z in
     block-word v foot t z
-    ∙ ordinary-same p v w foot t (b .ends) (weights-same (p .map) v w (map-fields v foot z) (b .weights))
+    ∙ ordinary-same p v w foot t (b .ends) (b .weights)
     ∙ ap (λ (q : Params). ordinaryWord q w foot t) (b .params)
     ∙ sym (block-word w foot t y)
 
-module _ (s s′ : List ℕ) (foot : Footprint) (l : LegalMap s foot) (h : length s′ ≡ 16) (b : SameBlock (bytes 16 s) (bytes 16 s′) foot) where
+module _ (s s′ : List ℕ) (foot : Footprint) (l : LegalMap s foot) (h : length s′ ≡ 16) (b : SameParams (bytes 16 s) (bytes 16 s′) foot) where
   answer-same : (room : ℕ) → answerOf s foot room ≡ answerOf s′ foot room
   unfolding answerOf
-  answer-same room = rw (l .sixteen, h, b .params)
+  answer-same room = rw (l .sixteen, h, b .fields)
 
   map-same : blockMap s foot ≡ blockMap s′ foot
   unfolding mapAnswer blockMap
-  map-same = rw (answer-same (texelsOf foot), b .params)
+  map-same = rw (answer-same (texelsOf foot), b .fields)
+
+  legal-answer : paramsOf (bytes 16 s) foot .answer ≡ 0
+  legal-answer = answer-is (fieldsOf (bytes 16 s)) foot ∙ l .answer
 
   painted-same : (out : List ℕ) → paintedOf s foot out ≡ paintedOf s′ foot out
   unfolding paintedOf wordAt
   painted-same out =
       rw (answer-same (length out))
       (ap (λ (x : List ℕ). cond (ltb (answerOf s′ foot (length out)) 20) x out)
-      (put-same _ _ 0 (texelsOf foot) out (λ k x y. word-same (bytes 16 s) (bytes 16 s′) foot k (l .answer) b)))
+      (put-same _ _ 0 (texelsOf foot) out (λ k x y. word-same (bytes 16 s) (bytes 16 s′) foot k legal-answer b)))
 
 -- the bits that a map names are those of its fields
-mapped-bits : (m : Map) (v w : ℕ) → ((i k : ℕ) → In (reportOf 0 m) i k → bitsAt v k 1 ≡ bitsAt w k 1) → (k : ℕ) → Mapped m k → bitsAt v k 1 ≡ bitsAt w k 1
-unfolding reportOf
+mapped-bits : (m : BlockMap) (v w : ℕ) → ((i k : ℕ) → In m i k → bitsAt v k 1 ≡ bitsAt w k 1) → (k : ℕ) → Mapped m k → bitsAt v k 1 ≡ bitsAt w k 1
 mapped-bits m v w h k = ⊎-elim (λ a. h 0 k a) (⊎-elim (λ a. h 1 k a) (⊎-elim (λ a. h 2 k a) (λ a. h 3 k a)))
 
 -- ---- the theorem
@@ -177,15 +178,17 @@ demand-3 s foot z =
     let l = legal-map s foot z in
     let v = bytes 16 s in
     let p = paramsOf v foot in
-    let f : Fields (p .map) = map-fields v foot (l .answer) in
-    let k : Facts p = ready p v foot refl (l .answer) (l .listed) .facts in
+    let m = mapOf v foot in
+    let a : p .answer ≡ 0 = answer-is (fieldsOf v) foot ∙ l .answer in
+    let f : InOrder m = in-order v foot (one-answer v foot ∙ a) in
+    let k : Facts p = ready p v foot refl a (l .listed) .facts in
     record {
-      within = rw (l .map) (field-within (p .map) f);
-      disjoint = rw (l .map) (λ i j x a b. field-is (p .map) f i x a ∙ sym (field-is (p .map) f j x b));
-      range = rw (l .map) (range-fits v foot (l .answer));
-      weights = weights-light p foot k (weightsField (p .map) v);
-      channels = channels-within s foot (l .answer) k;
+      within = rw (l .map) (field-within m f);
+      disjoint = rw (l .map) (λ i j x a b. field-is m f i x a ∙ sym (field-is m f j x b));
+      range = rw (l .map) (range-fits v foot a);
+      weights = weights-light p foot k (weightsField p v);
+      channels = channels-within s foot a k;
       local = λ s′ h same.
-          let b : SameBlock v (bytes 16 s′) foot = unmapped v (bytes 16 s′) foot (l .answer) (mapped-bits (p .map) v (bytes 16 s′) (rw (l .map) at same)) in
+          let b : SameParams v (bytes 16 s′) foot = local v (bytes 16 s′) foot a (mapped-bits m v (bytes 16 s′) (rw (l .map) at same)) in
           record { answer = answer-same s s′ foot l h b; map = map-same s s′ foot l h b; words = painted-same s s′ foot l h b };
     }

@@ -1,25 +1,22 @@
 -- Demand 3: a legal block never leaves its bounds, in the terms of the map that is reported. DemandLaws has the proof.
 -- Assumes nothing.
 use mathlib.Core.Path.{_≡_}
-use mathlib.Core.Bool.{cond}
 use mathlib.Core.List.{List, [], _∷_}
 use Prim.Native.Nat.{ℕ, _+_, _≤_, _<_}
-use lib.Dec.{eqb}
 use lib.ListN.{getD, length}
 use Rattle.bits.specs.Bits.{bitsAt, bytes}
 use Rattle.sequence_ranges.specs.Ranges.{topOf}
-use Rattle.params.specs.Ranges.{cost}
-use Rattle.params.specs.Blocks.{paramsOf}
+use Rattle.params_config.specs.Ranges.{cost}
+use Rattle.params_map.specs.declared.BlockMap.{BlockMap}
+use Rattle.params.specs.Params.{paramsOf, endsField, weightsField}
 use Rattle.params.specs.declared.Params.{Params}
-use Rattle.endpoints_colours.specs.Colours.{nothing}
-use Rattle.endpoints_colours.specs.declared.Mark.{Mark}
+use Rattle.endpoints_colours.specs.Colours.{nothing, markOf, firstOf, secondOf}
 use Rattle.endpoints_colours.specs.declared.Mark.the-variants.{Ldr}
 use Rattle.endpoints_colours.specs.declared.Endpoints.{Endpoints}
 use Rattle.blend.specs.BlendLaws.{Within}
 use Rattle.footprint.specs.declared.Footprint.{Footprint}
-use Rattle.block_ordinary.specs.Ordinary.{endsOf, endsField, weightsIn, weightsField, partitionsIn}
+use Rattle.block_ordinary.specs.Ordinary.{endsOf, weightsIn, partitionsIn}
 use Rattle.block_map.specs.Answer.{answerOf, blockMap}
-use Rattle.block_map.specs.declared.BlockMap.{BlockMap}
 use Rattle.block.specs.Block.{wordAt, paintedOf}
 
 -- ---- the fields of a map: 0 is the low configuration, 1 the endpoints, 2 the extra field, 3 the weights
@@ -46,31 +43,20 @@ pub record WidestRange (m : BlockMap) (n q : ℕ) : Type 0 where
   pub fits : m .endat + cost q n ≤ m .extraat
   pub widest : (r : ℕ) → q < r → r ≤ 20 → m .extraat < m .endat + cost r n
 
--- ---- channels: 0 to 3 for red, green, blue and alpha
--- of a word
+-- ---- a channel of a word: 0 to 3 for red, green, blue and alpha
 abbrev pub channelIn : ℕ → ℕ → ℕ
 channelIn w c = bitsAt w (getD (16 ∷ 8 ∷ 0 ∷ 24 ∷ []) c 0) 8
-
--- of a pair of endpoints: how it is read, and its two ends
-abbrev pub markOf : Endpoints → ℕ → Mark
-markOf e c = cond (eqb c 3) (e .alpha) (e .color)
-
-abbrev pub firstOf : Endpoints → ℕ → ℕ
-firstOf e c = getD (e .r0 ∷ e .g0 ∷ e .b0 ∷ e .a0 ∷ []) c 0
-
-abbrev pub secondOf : Endpoints → ℕ → ℕ
-secondOf e c = getD (e .r1 ∷ e .g1 ∷ e .b1 ∷ e .a1 ∷ []) c 0
 
 -- ---- the parts of the block s
 abbrev pub params : List ℕ → Footprint → Params
 params s foot = paramsOf (bytes 16 s) foot
 
 abbrev pub infilled : List ℕ → Footprint → List ℕ
-infilled s foot = weightsIn (params s foot) foot (weightsField (params s foot .map) (bytes 16 s))
+infilled s foot = weightsIn (params s foot) foot (weightsField (params s foot) (bytes 16 s))
 
 -- the endpoints of the partition of texel t
 abbrev pub endsAt : List ℕ → Footprint → ℕ → Endpoints
-endsAt s foot t = getD (endsOf (params s foot) (endsField (params s foot .map) (bytes 16 s))) (getD (partitionsIn (params s foot) foot) t 0) nothing
+endsAt s foot t = getD (endsOf (params s foot) (endsField (params s foot) (bytes 16 s))) (getD (partitionsIn (params s foot) foot) t 0) nothing
 
 -- ---- what two blocks share at a footprint, whatever the room and the output
 pub record Same (s s′ : List ℕ) (foot : Footprint) : Type 0 where

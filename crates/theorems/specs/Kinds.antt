@@ -4,7 +4,7 @@ use mathlib.Core.Path.{_≡_, refl, _∙_}
 use mathlib.Core.Bool.{Bool, true, false, _||_}
 use mathlib.Core.List.{List}
 use mathlib.Core.Logic.{_⊎_, ⊎-elim}
-use Prim.Native.Nat.{ℕ, _*_, _≤_, _<_}
+use Prim.Native.Nat.{ℕ, _≤_, _<_}
 use native.Mathlib.Omega.{arith}
 use lib.Dec.{eqb}
 use lib.ListN.{length}
@@ -13,9 +13,13 @@ use Rattle.laws.specs.Lists.{put, put-same}
 use Rattle.bits.specs.Bits.{bitsAt, bytes}
 use Rattle.footprint.specs.Footprints.{texelsOf, listed}
 use Rattle.footprint.specs.declared.Footprint.{Footprint}
-use Rattle.params.specs.Blocks.{answer, lowOf, paramsOf}
-use Rattle.params.specs.Config.{isVoid, isReserved}
-use Rattle.params.specs.Laws.{answer-is, answer-1, answer-10, low-bits-are}
+use Rattle.params_low.specs.Low.{isVoid, lowOf}
+use Rattle.params_low.specs.LowLaws.{low-bits-are}
+use Rattle.params_config.specs.Config.{isReserved}
+use Rattle.params_rules.specs.Fields.{fieldsOf, answer}
+use Rattle.params_rules.specs.FieldLaws.{answer-void, told-reserved}
+use Rattle.params.specs.Params.{paramsOf}
+use Rattle.params.specs.Laws.{answer-is}
 use Rattle.block_void.specs.Void.{voidWord}
 use Rattle.block_map.specs.Answer.{answerOf}
 use Rattle.block.specs.Block.{magenta, colourOf, wordOfParams, blockWord, wordAt, paintedOf}
@@ -40,13 +44,13 @@ Void v = bitsAt v 0 9 ≡ 0x1fc
 abbrev pub Reserved : ℕ → Type 0
 Reserved v = (bitsAt v 0 4 ≡ 0) ⊎ ((bitsAt v 0 2 ≡ 0) × (bitsAt v 6 3 ≡ 7))
 
-void-is : (v : ℕ) → Void v → isVoid (lowOf v) ≡ true
+void-is : (v : ℕ) → Void v → isVoid v ≡ true
 unfolding isVoid
-void-is v h = rw (low-bits-are v 0 9 (omega arith)) (eq-eqb (bitsAt v 0 9) 0x1fc h)
+void-is v h = eq-eqb (bitsAt v 0 9) 0x1fc h
 
-not-void-is : (v : ℕ) → (Void v → ⊥) → isVoid (lowOf v) ≡ false
+not-void-is : (v : ℕ) → (Void v → ⊥) → isVoid v ≡ false
 unfolding isVoid
-not-void-is v h = rw (low-bits-are v 0 9 (omega arith)) (ne-eqb (bitsAt v 0 9) 0x1fc h)
+not-void-is v h = ne-eqb (bitsAt v 0 9) 0x1fc h
 
 or-true : (b : Bool) → b || true ≡ true
 or-true true = refl
@@ -60,25 +64,26 @@ reserved-is v r =
 
 -- ---- one colour
 module _ (s : List ℕ) (foot : Footprint) (out : List ℕ) (h : Accepted s foot (length out)) where
-  answer-in : answerOf s foot (length out) ≡ paramsOf (bytes 16 s) foot .answer
+  answer-in : answerOf s foot (length out) ≡ answer (fieldsOf (bytes 16 s)) foot
   unfolding answerOf
   answer-in = rw (eq-eqb (length s) 16 (h .sixteen), h .footprint, le-ltb (length out) (texelsOf foot) (h .room))
 
-  one-colour : (a w : ℕ) → paramsOf (bytes 16 s) foot .answer ≡ a → a < 20 → ((t : ℕ) → wordAt s foot t ≡ w) → OneColour s foot out a w
-  unfolding paintedOf
-  one-colour a w e l p = record { answer = answer-in ∙ e; words = rw (answer-in, e, lt-ltb a 20 l) (put-same _ _ 0 (texelsOf foot) out (λ k x y. p k)) }
+  -- a block that is not legal has one word, which its answer tells
+  one-colour : (a : ℕ) → answer (fieldsOf (bytes 16 s)) foot ≡ a → (a ≡ 0 → ⊥) → a < 20 → OneColour s foot out a (colourOf a (bytes 16 s))
+  unfolding paintedOf wordAt blockWord wordOfParams
+  one-colour a e n l =
+      let p : paramsOf (bytes 16 s) foot .answer ≡ a = answer-is (fieldsOf (bytes 16 s)) foot ∙ e in
+      record { answer = answer-in ∙ e; words = rw (answer-in, e, lt-ltb a 20 l) (put-same _ _ 0 (texelsOf foot) out (λ k x y. rw (p, ne-eqb a 0 n))) }
 
   -- ---- the theorems
   pub void-painted : Void (bytes 16 s) → OneColour s foot out 1 (voidWord (bytes 16 s))
-  unfolding wordAt blockWord wordOfParams colourOf
-  void-painted v =
-      let e : paramsOf (bytes 16 s) foot .answer ≡ 1 = answer-is (bytes 16 s) foot ∙ answer-1 (lowOf (bytes 16 s)) foot (void-is (bytes 16 s) v) in
-      one-colour 1 _ e (omega arith) (λ t. rw e)
+  unfolding colourOf
+  void-painted v = one-colour 1 (answer-void (bytes 16 s) foot (void-is (bytes 16 s) v)) (λ z. omega arith) (omega arith)
 
-  pub refused-painted : (a : ℕ) → paramsOf (bytes 16 s) foot .answer ≡ a → 10 ≤ a → a < 20 → OneColour s foot out a magenta
-  unfolding wordAt blockWord wordOfParams colourOf
-  refused-painted a e l k = one-colour a magenta e k (λ t. rw (e, ne-eqb a 0 (λ z. omega arith), ne-eqb a 1 (λ z. omega arith)))
+  pub refused-painted : (a : ℕ) → answer (fieldsOf (bytes 16 s)) foot ≡ a → 10 ≤ a → a < 20 → OneColour s foot out a magenta
+  unfolding colourOf
+  refused-painted a e l k = rw (ne-eqb a 1 (λ z. omega arith)) at (one-colour a e (λ z. omega arith) k)
 
   pub reserved-painted : Reserved (bytes 16 s) → (Void (bytes 16 s) → ⊥) → OneColour s foot out 10 magenta
   reserved-painted r n =
-      refused-painted 10 (answer-is (bytes 16 s) foot ∙ answer-10 (lowOf (bytes 16 s)) foot (not-void-is (bytes 16 s) n) (reserved-is (bytes 16 s) r)) (omega arith) (omega arith)
+      refused-painted 10 (told-reserved (bytes 16 s) foot (isVoid (bytes 16 s)) refl (not-void-is (bytes 16 s) n) _ refl _ refl (reserved-is (bytes 16 s) r)) (omega arith) (omega arith)

@@ -4,3 +4,4 @@ pub mod Kinds
 pub mod Values
 pub mod Steps
 pub mod Tight
+pub mod TightImage

@@ -1,8 +1,8 @@
 -- The theorems of the image: every pixel is painted, what any list of accepted steps comes to, the whole image as its steps, and what a pixel's
 -- word depends on.
 -- Assumes nothing.
-use mathlib.Core.Path.{_≡_, refl, sym, ap, _∙_}
-use mathlib.Core.Bool.{true, _&&_}
+use mathlib.Core.Path.{_≡_, refl, ap, _∙_}
+use mathlib.Core.Bool.{_&&_}
 use mathlib.Core.List.{List, [], _∷_}
 use Prim.Native.Nat.{ℕ, _+_, _/_, _%_, _≤_, _<_, min, zero-le}
 use native.Mathlib.Nat.{mul-comm, mod-lt, div-lt-iff-lt-mul}
@@ -15,7 +15,7 @@ use borrow.Author.Tests.{eq-eqb, ne-eqb, lt-ltb, le-ltb, le-leb}
 use Rattle.laws.specs.Lists.{put}
 use Rattle.block.specs.Block.{wordAt}
 use Rattle.image_shape.specs.Shapes.{acrossOf, downOf, totalOf, pixelsOf, blockOf, texelOf, bytesOf, refusalOf}
-use Rattle.image_shape.specs.ShapeLaws.{Bounded, Sized, sized-accepted, same-sized}
+use Rattle.image_shape.specs.ShapeLaws.{Sized, sized-accepted, same-sized}
 use Rattle.image_shape.specs.declared.Shape.{Shape}
 use Rattle.image_window.specs.Windows.{marked, isIn}
 use Rattle.image_window.specs.Places.{block-inside}
@@ -26,14 +26,21 @@ use Rattle.image.specs.Image.{imageOf, stepAnswer, paintedBy, movedBy, stepOf, 
 use Rattle.image.specs.declared.Cursor.{Cursor}
 
 -- ---- every pixel
-in-a-block : (m : Shape) (k : ℕ) → Bounded m → k < pixelsOf m → blockOf m k < totalOf m
+-- a shape that has pixels, and blocks of some size
+pub record Shaped (m : Shape) : Type 0 where
+  pub width : 0 < m .width
+  pub height : 0 < m .height
+  pub column : 0 < m .footprint .width
+  pub row : 0 < m .footprint .height
+
+in-a-block : (m : Shape) (k : ℕ) → Shaped m → k < pixelsOf m → blockOf m k < totalOf m
 in-a-block m k s h =
-    let y : k / m .width < m .height = div-lt-iff-lt-mul (s .width .0) .1 (rw (mul-comm (m .height) (m .width)) h) in
+    let y : k / m .width < m .height = div-lt-iff-lt-mul (s .width) .1 (rw (mul-comm (m .height) (m .width)) h) in
     rw (mul-comm (acrossOf m) (downOf m))
-    (digits-lt (block-inside (m .height) (m .footprint .height) (k / m .width) (s .sides .row) y) (block-inside (m .width) (m .footprint .width) (k % m .width) (s .sides .column) (mod-lt k (s .width .0))))
+    (digits-lt (block-inside (m .height) (m .footprint .height) (k / m .width) (s .row) y) (block-inside (m .width) (m .footprint .width) (k % m .width) (s .column) (mod-lt k (s .width))))
 
 -- after all blocks every pixel has its word
-pub whole : (d : List ℕ) (m : Shape) (out : List ℕ) → Bounded m → paintedBlocks d m 0 (totalOf m) out ≡ put (pixelWord d m) 0 (pixelsOf m) out
+pub whole : (d : List ℕ) (m : Shape) (out : List ℕ) → Shaped m → paintedBlocks d m 0 (totalOf m) out ≡ put (pixelWord d m) 0 (pixelsOf m) out
 unfolding paintedBlocks put marked isIn
 whole d m out s = marked-same (isIn m 0 (totalOf m)) (λ (k : ℕ). leb 0 k && ltb k (pixelsOf m)) (pixelWord d m) (pixelWord d m) out (λ k. go k (decLt k (pixelsOf m))) (λ k x. refl)
   where
