@@ -4,18 +4,23 @@
 use bits::Block;
 use endpoints_colours::Endpoints;
 use endpoints_colours::Mark;
+use footprint::Footprint;
+use footprint::TEXELS;
+use footprint::WEIGHTS;
 use libc::STDOUT_FILENO;
-use params::Config;
-use params::Map;
-use sequence::Range;
-use weights::Grid;
+use params::Params;
+use params_config::Config;
+use params_map::BlockMap;
+use sequence_ranges::Range;
+use weights_grid::Grid;
 ghost use mathlib.Core.Path.{_≡_};
 ghost use mathlib.Core.Bool.{true};
 ghost use Prim.Native.Nat.{ℕ, _+_, _≤_, _<_};
 ghost use lib.ListN.{getD};
-ghost use Rattle.sequence.specs.Ranges.{rangeOf, most};
+ghost use Rattle.sequence_ranges.specs.Ranges.{rangeOf, most};
 ghost use Rattle.endpoints.specs.Endpoints.{countTo};
-ghost use Rattle.weights.specs.Given.{isSide, countOf, Fits};
+ghost use Rattle.footprint.specs.Sides.{Sides};
+ghost use Rattle.weights_grid.specs.Grids.{countOf, Fits};
 ghost use Rattle.program_leaves.specs.Encoded.{Encoded, Inside};
 
 fn wide(x: u8) -> usize
@@ -46,7 +51,7 @@ fn pair_at(ask: &[u8; 32], i: usize) -> usize
 
 fn block_of(ask: &[u8; 32]) -> Block {
     let s = &ask[..];
-    bits::load(&s[16..32])
+    bits_load::load(&s[16..32])
 }
 
 fn put(out: &mut [u8; 288], i: usize, x: usize)
@@ -84,7 +89,7 @@ fn reply_bits(out: &mut [u8; 288], ask: &[u8; 32]) {
     if len <= 64 {
         put_u64(out, 0, bits::getbits(b, start, len));
     }
-    let r = bits::reverse(&bits::reversal(), b);
+    let r = bits_reversal::reverse(&bits_reversal::reversal(), b);
     put_u64(out, 8, r.lo);
     put_u64(out, 16, r.hi);
 }
@@ -92,9 +97,9 @@ fn reply_bits(out: &mut [u8; 288], ask: &[u8; 32]) {
 // An entry of each table.
 fn reply_tables(out: &mut [u8; 288], ask: &[u8; 32]) {
     let i = at(ask, 1);
-    let rev = bits::reversal();
-    let trits = sequence::trits();
-    let quints = sequence::quints();
+    let rev = bits_reversal::reversal();
+    let trits = sequence_ranges::trits();
+    let quints = sequence_ranges::quints();
     put(out, 0, wide(rev[i]));
     put_pair(out, 1, long(trits[i]));
     put_pair(out, 3, long(quints[i % 128]));
@@ -112,7 +117,7 @@ fn legal_range(q: usize) -> Range
     requires { ⌜ q < 21 ⌝ }
     ensures { λ r. ⌜ (r ≡ rangeOf q) × (r .bits ≤ most (r .kind)) ⌝ }
 {
-    sequence::range_of(q)
+    sequence_ranges::range_of(q)
 }
 
 // n values of range q: upwards from a bit on, or downwards from the block's end.
@@ -125,9 +130,9 @@ fn values_of(b: Block, q: usize, n: usize, offset: usize, down: bool) -> [u8; 72
     if down {
         sequence::decode_intseq_reverse(
             &mut seq,
-            &bits::reversal(),
-            &sequence::trits(),
-            &sequence::quints(),
+            &bits_reversal::reversal(),
+            &sequence_ranges::trits(),
+            &sequence_ranges::quints(),
             b,
             r,
             n,
@@ -136,8 +141,8 @@ fn values_of(b: Block, q: usize, n: usize, offset: usize, down: bool) -> [u8; 72
     }
     sequence::decode_intseq(
         &mut seq,
-        &sequence::trits(),
-        &sequence::quints(),
+        &sequence_ranges::trits(),
+        &sequence_ranges::quints(),
         b,
         offset,
         r,
@@ -201,7 +206,21 @@ fn put_config(out: &mut [u8; 288], k: Config) {
     put(out, 9, k.weightlen);
 }
 
-fn put_map(out: &mut [u8; 288], m: Map) {
+fn put_params(out: &mut [u8; 288], p: Params) {
+    let k = p.config;
+    put(out, 0, p.answer);
+    put_config(out, k);
+    put(out, 10, p.channel);
+    let m = p.modes;
+    put(out, 11, wide(m[0]));
+    put(out, 12, wide(m[1]));
+    put(out, 13, wide(m[2]));
+    put(out, 14, wide(m[3]));
+    put_pair(out, 15, k.number);
+    put(out, 17, p.range);
+}
+
+fn put_map(out: &mut [u8; 288], m: BlockMap) {
     put(out, 18, m.top);
     put(out, 19, m.lowlen);
     put(out, 20, m.endat);
@@ -212,25 +231,28 @@ fn put_map(out: &mut [u8; 288], m: Map) {
     put(out, 25, m.weightlen);
 }
 
+fn footprint_at(ask: &[u8; 32], i: usize) -> Footprint
+    requires { ⌜ i < 31 ⌝ }
+{
+    Footprint {
+        width: at(ask, i),
+        height: at(ask, i + 1),
+    }
+}
+
 // The parameters of the block at a footprint, and whether that is listed.
 fn reply_params(out: &mut [u8; 288], ask: &[u8; 32]) {
-    let bw = at(ask, 1);
-    let bh = at(ask, 2);
-    let p = params::decode_block_params(block_of(ask), bw, bh);
-    put(out, 0, p.answer);
-    put_config(out, p.config);
-    put(out, 10, p.channel);
-    let m = p.modes;
-    put(out, 11, wide(m[0]));
-    put(out, 12, wide(m[1]));
-    put(out, 13, wide(m[2]));
-    put(out, 14, wide(m[3]));
-    put_pair(out, 15, p.number);
-    put(out, 17, p.range);
-    put_map(out, p.map);
-    if params::is_listed(bw, bh) {
+    let f = footprint_at(ask, 1);
+    let b = block_of(ask);
+    if footprint::is_listed(f) {
         put(out, 26, 1);
     }
+    if params_low::is_void(b) {
+        put(out, 0, answers::VOID_EXTENT);
+        return;
+    }
+    put_params(out, params::decode_block_params(b, f));
+    put_map(out, params_map::decode_block_map(b, f));
 }
 
 fn mark_number(m: Mark) -> usize {
@@ -336,33 +358,9 @@ fn reply_endpoints(out: &mut [u8; 288], ask: &[u8; 32]) {
     put_modes(out, parts, modes, q, block_of(ask));
 }
 
-fn is_side(n: usize) -> bool
-    ensures { λ r. ⌜ r ≡ isSide n ⌝ }
-{
-    if n == 4 {
-        return true;
-    }
-    if n == 5 {
-        return true;
-    }
-    if n == 6 {
-        return true;
-    }
-    if n == 8 {
-        return true;
-    }
-    if n == 10 {
-        return true;
-    }
-    if n == 12 {
-        return true;
-    }
-    false
-}
-
-fn put_weights(out: &mut [u8; 288], w: &[u8; 288]) {
+fn put_weights(out: &mut [u8; 288], w: &[u8; WEIGHTS]) {
     let mut i = 0;
-    while i < 288 {
+    while i < WEIGHTS {
         out[i] = w[i];
         i += 1;
     }
@@ -372,7 +370,7 @@ fn put_grid(out: &mut [u8; 288], g: Grid, n: usize, q: usize, b: Block)
     requires { ⌜ (Fits g) × ((n ≡ countOf g) × (q < 12)) ⌝ }
 {
     let seq = values_of(b, q, n, 0, true);
-    let mut w = [0u8; 288];
+    let mut w = [0u8; WEIGHTS];
     weights::decode_weights(&mut w, g, q, &seq);
     put_weights(out, &w);
 }
@@ -393,27 +391,28 @@ fn put_planes(out: &mut [u8; 288], g: Grid, q: usize, b: Block)
 }
 
 fn put_inside(out: &mut [u8; 288], g: Grid, q: usize, b: Block)
-    requires { ⌜ ((isSide (g .bw) ≡ true) × (isSide (g .bh) ≡ true)) × (((g .bw < 256) × (g .bh < 256)) × (q < 12)) ⌝ }
+    requires { ⌜ Sides (g .footprint) × (q < 12) ⌝ }
 {
+    let f = g.footprint;
     if g.width < 2 {
         return;
     }
-    if g.bw < g.width {
+    if f.width < g.width {
         return;
     }
     if g.height < 2 {
         return;
     }
-    if g.height <= g.bh {
+    if g.height <= f.height {
         put_planes(out, g, q, b);
     }
 }
 
 // The weights of the texels of a grid of range q at a footprint.
 fn reply_weights(out: &mut [u8; 288], ask: &[u8; 32]) {
+    let f = footprint_at(ask, 1);
     let g = Grid {
-        bw: at(ask, 1),
-        bh: at(ask, 2),
+        footprint: f,
         width: at(ask, 3),
         height: at(ask, 4),
         planes: at(ask, 5),
@@ -422,16 +421,14 @@ fn reply_weights(out: &mut [u8; 288], ask: &[u8; 32]) {
     if 11 < q {
         return;
     }
-    if is_side(g.bw) {
-        if is_side(g.bh) {
-            put_inside(out, g, q, block_of(ask));
-        }
+    if footprint::is_listed(f) {
+        put_inside(out, g, q, block_of(ask));
     }
 }
 
-fn put_partition(out: &mut [u8; 288], map: &[u8; 144]) {
+fn put_partition(out: &mut [u8; 288], map: &[u8; TEXELS]) {
     let mut i = 0;
-    while i < 144 {
+    while i < TEXELS {
         out[i] = map[i];
         i += 1;
     }
@@ -441,8 +438,7 @@ fn put_partition(out: &mut [u8; 288], map: &[u8; 144]) {
 fn reply_partition(out: &mut [u8; 288], ask: &[u8; 32]) {
     let number = pair_at(ask, 1);
     let parts = at(ask, 3);
-    let bw = at(ask, 4);
-    let bh = at(ask, 5);
+    let f = footprint_at(ask, 4);
     if 1024 <= number {
         return;
     }
@@ -452,18 +448,11 @@ fn reply_partition(out: &mut [u8; 288], ask: &[u8; 32]) {
     if 4 < parts {
         return;
     }
-    if bw == 0 {
-        return;
+    if footprint::is_listed(f) {
+        let mut map = [0u8; TEXELS];
+        partition::select_partition(&mut map, number as u32, parts, f);
+        put_partition(out, &map);
     }
-    if 12 < bw {
-        return;
-    }
-    if 12 < bh {
-        return;
-    }
-    let mut map = [0u8; 144];
-    partition::select_partition(&mut map, number as u32, parts, bw, bh);
-    put_partition(out, &map);
 }
 
 fn ldr(v0: usize, v1: usize, w: usize) -> usize

@@ -1,5 +1,5 @@
 -- `program_leaves::legal_range` meets its contract: every range of the list is legal. Assumes nothing.
-use Rattle.sequence.specs.SequenceLaws.{legal}
+use Rattle.sequence_ranges.specs.RangeLaws.{legal}
 use borrow.Author.Needs.{needs}
 use Rattle.program_leaves.proofs.legal_range.Statement.{statement}
 use Rattle.program_leaves.proofs.legal_range.Tie as tie

@@ -15,8 +15,8 @@ returns-3 c = search needs
 
 put-planes-requires : tie.Need-put-planes-requires
 put-planes-requires c κs =
-    let p = c .before .before .before .before .before .before .before .before .before .pre in
-    (record { side = p .0 .0; side-high = p .0 .1; wide = (omega arith, omega arith); high = (omega arith, omega arith); small = (omega arith, omega arith) }, p .1 .1)
+    let p = c .before .before .before .before .before .before .before .before .before .before .before .before .pre in
+    (record { sides = p .0; wide = (omega arith, omega arith); high = (omega arith, omega arith) }, p .1)
 
 returns-4 : tie.Need-returns-4
 returns-4 c = search needs

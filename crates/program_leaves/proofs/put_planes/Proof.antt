@@ -1,7 +1,7 @@
 -- `program_leaves::put_planes` meets its contract: products of small numbers. Assumes nothing.
 use mathlib.Core.Path.{refl}
 use Prim.Native.Nat.{_≤_}
-use native.Mathlib.Nat.{mul-le-mul}
+use native.Mathlib.Nat.{mul-le-mul, le-trans}
 use native.Mathlib.Omega.{arith}
 use borrow.Author.Needs.{needs}
 use Rattle.program_leaves.proofs.put_planes.Statement.{statement}
@@ -16,16 +16,16 @@ returns-2 c = search needs
 mul-n : tie.Need-mul-n
 mul-n c =
     let s = c .before .before .before .before .before in
-    let w : s .args .g .width ≤ 255 = omega (arith, s .pre .0 .small .0) in
-    let h : s .args .g .height ≤ 255 = omega (arith, s .pre .0 .small .1) in
+    let w : s .args .g .width ≤ 12 = le-trans (s .pre .0 .wide .1) (s .pre .0 .sides .width) in
+    let h : s .args .g .height ≤ 12 = le-trans (s .pre .0 .high .1) (s .pre .0 .sides .height) in
     let p : s .args .g .planes ≤ 2 = omega arith in
     omega (arith, mul-le-mul w h, mul-le-mul (mul-le-mul w h) p)
 
 mul-n-2 : tie.Need-mul-n-2
 mul-n-2 c =
     let s = c .before .before .before .before .before .before in
-    let w : s .args .g .width ≤ 255 = omega (arith, s .pre .0 .small .0) in
-    let h : s .args .g .height ≤ 255 = omega (arith, s .pre .0 .small .1) in
+    let w : s .args .g .width ≤ 12 = le-trans (s .pre .0 .wide .1) (s .pre .0 .sides .width) in
+    let h : s .args .g .height ≤ 12 = le-trans (s .pre .0 .high .1) (s .pre .0 .sides .height) in
     let p : s .args .g .planes ≤ 2 = omega arith in
     omega (arith, mul-le-mul w h, mul-le-mul (mul-le-mul w h) p)
 
@@ -33,7 +33,7 @@ put-grid-requires : tie.Need-put-grid-requires
 put-grid-requires c κs =
     let p = c .before .before .before .before .before .before .before .before .pre in
     let i = p .0 in
-    (record { side = i .side; side-high = i .side-high; wide = i .wide; high = i .high; planes = (omega arith, omega arith); few = omega arith }, (refl, p .1))
+    (record { sides = i .sides; wide = i .wide; high = i .high; planes = (omega arith, omega arith); few = omega arith }, (refl, p .1))
 
 returns-3 : tie.Need-returns-3
 returns-3 c = search needs

@@ -7,15 +7,6 @@ use Rattle.program_listing.proofs.answer_of.Tie as tie
 returns : tie.Need-returns
 returns c = let s = c .before .before .before .args in short (s .bytes .now) (s .words .now) (c .if1 .taken)
 
-sub-decode-astc-block : tie.Need-sub-decode-astc-block
-sub-decode-astc-block c = search needs
-
-part-decode-astc-block-start : tie.Need-part-decode-astc-block-start
-part-decode-astc-block-start c = search needs
-
-part-decode-astc-block-end : tie.Need-part-decode-astc-block-end
-part-decode-astc-block-end c = search needs
-
 shared-slice-read-wide : tie.Need-shared-slice-read-wide
 shared-slice-read-wide c = search needs
 
@@ -28,6 +19,15 @@ shared-slice-read-wide-2 c = search needs
 wide-requires-2 : tie.Need-wide-requires-2
 wide-requires-2 c κs = search needs
 
+sub-decode-astc-block : tie.Need-sub-decode-astc-block
+sub-decode-astc-block c = search needs
+
+part-decode-astc-block-start : tie.Need-part-decode-astc-block-start
+part-decode-astc-block-start c = search needs
+
+part-decode-astc-block-end : tie.Need-part-decode-astc-block-end
+part-decode-astc-block-end c = search needs
+
 decode-astc-block-requires : tie.Need-decode-astc-block-requires
 decode-astc-block-requires c κs = search needs
 
@@ -38,20 +38,20 @@ returns-2 : tie.Need-returns-2
 returns-2 c =
     let d = c .before .before .decode-astc-block .ensures in
     let s = c .before .before .before .before .before .before .before .before .before .before .before .before .args in
-    whole (s .bytes .now) (s .words .now) _ _ _ _ (c .before .before .before .before .before .before .wide .ensures) (c .before .before .before .before .wide2 .ensures) (d .0) (d .1)
+    whole (s .bytes .now) (s .words .now) _ _ _ _ (c .before .before .before .before .before .before .before .wide .ensures) (c .before .before .before .before .before .wide2 .ensures) (d .0) (d .1)
 
 pub answer-of-spec : {M : Type 1} → statement M
 answer-of-spec =
     tie.close
     (tie.spec
     returns
-    sub-decode-astc-block
-    part-decode-astc-block-start
-    part-decode-astc-block-end
     shared-slice-read-wide
     wide-requires
     shared-slice-read-wide-2
     wide-requires-2
+    sub-decode-astc-block
+    part-decode-astc-block-start
+    part-decode-astc-block-end
     decode-astc-block-requires
     same-length
     returns-2)
