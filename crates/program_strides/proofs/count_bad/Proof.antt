@@ -6,10 +6,10 @@ use Rattle.program_strides.proofs.count_bad.Statement.{statement}
 use Rattle.program_strides.proofs.count_bad.Tie as tie
 
 abbrev Inv-loop : tie.InvT-loop
-Inv-loop «data» bw bh found₀ b₀ found b = Unit {0}
+Inv-loop «data» f found₀ b₀ found b = Unit {0}
 
 abbrev μ-loop : tie.MeasureT-loop
-μ-loop «data» bw bh found₀ b₀ found b = length «data» - b
+μ-loop «data» f found₀ b₀ found b = length «data» - b
 
 loop-holds : tie.Need-loop-holds Inv-loop μ-loop
 loop-holds c = search needs

@@ -6,7 +6,7 @@ use Rattle.program_strides.proofs.pixels_of.Statement.{statement}
 use Rattle.program_strides.proofs.pixels_of.Tie as tie
 
 mul-result : tie.Need-mul-result
-mul-result c = let q = c .before .pre in omega (arith, mul-le-mul (q .width) (q .height))
+mul-result c = let q = c .before .before .pre in omega (arith, mul-le-mul (q .width) (q .height))
 
 returns : tie.Need-returns
 returns c = search needs
