@@ -32,9 +32,13 @@ fn smaller(a: usize, b: usize) -> usize
 fn refused(c: Cursor, answer: usize) -> Step
     ensures { λ r. ⌜ r ≡ refusedAt c answer ⌝ }
 {
+    let shape = c.shape;
     Step {
         answer,
-        cursor: c,
+        cursor: Cursor {
+            shape,
+            next: c.next,
+        },
         painted: 0,
         bad: 0,
     }

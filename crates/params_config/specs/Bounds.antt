@@ -8,6 +8,7 @@ use lib.Pow.{mod-pow-add}
 use native.Mathlib.Omega.{arith}
 use lib.Dec.{eqb}
 use borrow.Author.Tests.{ne-eqb, eqb-true, eqb-false}
+use Rattle.footprint.specs.Footprints.{mostWeights}
 use Rattle.bits.specs.Bits.{bitsAt}
 use Rattle.bits.specs.BitLaws.{bits-lt}
 use Rattle.laws.specs.Numbers.{choice, choice-le}
@@ -57,12 +58,12 @@ most-le Plain = omega arith
 most-le Trits = omega arith
 most-le Quints = omega arith
 
-pub cost-le : (q n : ℕ) → q < 21 → n ≤ 288 → cost q n ≤ 2304 + 672
+pub cost-le : (q n : ℕ) → q < 21 → n ≤ mostWeights → cost q n ≤ 2304 + 672
 unfolding cost totalOf
 cost-le q n h l =
     let r = rangeOf q in
     let b : r .bits ≤ 8 = omega (arith, legal q h, most-le (r .kind)) in
-    let m : n * r .bits ≤ 288 * 8 = mul-le-mul l b in
+    let m : n * r .bits ≤ mostWeights * 8 = mul-le-mul l b in
     omega (arith, shared-le (r .kind) n)
 
 -- ---- the grid
@@ -162,7 +163,7 @@ unfolding extraModeBits
 mode-bits-most c = choice-le (eqb (modeBase c) 0) 0 (3 * partsOf c - 4) (omega arith) (omega (arith, parts-most c))
 
 -- ---- all of it
-pub weights-most : (c : ℕ) → gridOf c .width * gridOf c .height * planesOf c ≤ 288
+pub weights-most : (c : ℕ) → gridOf c .width * gridOf c .height * planesOf c ≤ mostWeights
 weights-most c =
     let g = grid-small c in
     let p : planesOf c ≤ 2 = omega (arith, d-most c) in

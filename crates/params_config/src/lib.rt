@@ -2,6 +2,7 @@
 ghost use mathlib.Core.Path.{_≡_};
 ghost use mathlib.Core.Bool.{false};
 ghost use Prim.Native.Nat.{_*_, _≤_, _<_};
+ghost use Rattle.footprint.specs.Footprints.{mostWeights};
 ghost use Rattle.params_config.specs.Ranges.{cost};
 ghost use Rattle.params_config.specs.Config.{isReserved, gridLow, gridHigh, gridOf, weightR, weightH, weightD, lacksDH, partsOf, extraModeBits, partitionsOf, configOf};
 
@@ -40,7 +41,7 @@ pub struct Config {
 
 // The bits of n values of the range of number q.
 fn range_bits(q: usize, n: usize) -> usize
-    requires { ⌜ (q < 21) × (n ≤ 288) ⌝ }
+    requires { ⌜ (q < 21) × (n ≤ mostWeights) ⌝ }
     ensures { λ r. ⌜ r ≡ cost q n ⌝ }
 {
     sequence_ranges::total(sequence_ranges::range_of(q), n)

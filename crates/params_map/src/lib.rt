@@ -4,6 +4,7 @@ use footprint::Footprint;
 use params_config::Config;
 ghost use mathlib.Core.Path.{_≡_};
 ghost use Prim.Native.Nat.{_≤_, _<_};
+ghost use Rattle.footprint.specs.Footprints.{mostWeights};
 ghost use Rattle.bits.specs.Blocks.{valueOf};
 ghost use Rattle.sequence_ranges.specs.Ranges.{topOf};
 ghost use Rattle.params_config.specs.Ranges.{cost};
@@ -45,7 +46,7 @@ fn top_of(q: usize) -> usize
 
 // The bits of n values of the range of number q.
 fn range_bits(q: usize, n: usize) -> usize
-    requires { ⌜ (q < 21) × (n ≤ 288) ⌝ }
+    requires { ⌜ (q < 21) × (n ≤ mostWeights) ⌝ }
     ensures { λ r. ⌜ r ≡ cost q n ⌝ }
 {
     sequence_ranges::total(sequence_ranges::range_of(q), n)
