@@ -12,6 +12,7 @@ use Rattle.sequence_ranges.specs.Digits.{tritTable, quintTable}
 use Rattle.answers.specs.Answers.{legal, voidExtent, blockLength}
 use Rattle.footprint.specs.Footprints.{texelsOf}
 use Rattle.footprint.specs.declared.Footprint.{Footprint}
+use Rattle.params_low.specs.Low.{isVoid}
 use Rattle.params_rules.specs.Fields.{fieldsOf, answer}
 use Rattle.params.specs.Params.{paramsOf}
 use Rattle.params.specs.declared.Params.{Params}
@@ -53,6 +54,10 @@ theTables = record { reversal = reversals; trits = tritTable; quints = quintTabl
 -- what a block at a listed footprint comes to: its answer, and its one word where it is not legal
 unfoldable pub outcomeOf : List ℕ → Footprint → Outcome
 outcomeOf s foot = let a = answer (fieldsOf (bytes 16 s)) foot in record { answer = a; word = cond (eqb a legal) 0 (colourOf a (bytes 16 s)) }
+
+-- what a void block comes to; of any other block the answer 0 says that it is to be decoded
+unfoldable pub voidOutcome : List ℕ → Outcome
+voidOutcome s = cond (isVoid (bytes 16 s)) (record { answer = voidExtent; word = voidWord (bytes 16 s) }) (record { answer = legal; word = 0 })
 
 -- the lanes h with those of a legal block's words
 unfoldable pub lanesIn : List ℕ → Footprint → List ℕ → List ℕ

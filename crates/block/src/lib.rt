@@ -1,13 +1,15 @@
 // A block: from sixteen bytes to the words of its texels.
 ghost use mathlib.Core.Path.{_≡_};
-ghost use mathlib.Core.Bool.{true};
+ghost use mathlib.Core.Bool.{true, false};
 ghost use Prim.Native.Nat.{_≤_};
 ghost use lib.ListN.{length};
 ghost use Rattle.laws.specs.Lists.{put};
 ghost use Rattle.footprint.specs.Footprints.{texelsOf, listed};
+ghost use Rattle.bits.specs.Bits.{bytes};
+ghost use Rattle.params_low.specs.Low.{isVoid};
 ghost use Rattle.block_ordinary.specs.Facts.{Lent};
 ghost use Rattle.block_map.specs.Answer.{answerOf};
-ghost use Rattle.block.specs.Block.{theTables, wordAt, outcomeOf, lanesIn, paintedOf};
+ghost use Rattle.block.specs.Block.{theTables, wordAt, voidOutcome, outcomeOf, lanesIn, paintedOf};
 use footprint::Footprint;
 use lanes::LANES;
 
@@ -37,18 +39,10 @@ pub struct Outcome {
     pub word: u32,
 }
 
-// Decodes a block of sixteen bytes at a listed footprint, with lent tables. The lanes of a legal block's words are put into `lanes`; any other
-// block has one colour, and puts none.
-pub fn decode_lanes<'a>(
-    rev: &'a [u8; 256],
-    t: &'a [u16; 256],
-    q: &'a [u16; 128],
-    s: &[u8],
-    f: Footprint,
-    lanes: &mut [u16; LANES],
-) -> Outcome
-    requires { ⌜ (Lent (now rev) (now t) (now q)) × ((length (now s) ≡ 16) × (listed f ≡ true)) ⌝ }
-    ensures { λ r. ⌜ (r ≡ outcomeOf (now (s .entry)) f) × (now (lanes .exit) ≡ lanesIn (now (s .entry)) f (now (lanes .entry))) ⌝ }
+// What a void block of sixteen bytes comes to. Of any other block the answer is 0: it is to be decoded.
+pub fn void_outcome(s: &[u8]) -> Outcome
+    requires { ⌜ length (now s) ≡ 16 ⌝ }
+    ensures { λ r. ⌜ r ≡ voidOutcome (now (s .entry)) ⌝ }
 {
     let b = bits_load::load(s);
     if params_low::is_void(b) {
@@ -57,6 +51,26 @@ pub fn decode_lanes<'a>(
             word: block_void::void_color(b),
         };
     }
+    Outcome {
+        answer: answers::LEGAL,
+        word: 0,
+    }
+}
+
+// Decodes a block of sixteen bytes that is not void, at a listed footprint, with lent tables. The lanes of a legal block's words are put into
+// `lanes`; a block that breaks a rule is magenta, and puts none.
+pub fn decode_lanes<'a>(
+    rev: &'a [u8; 256],
+    t: &'a [u16; 256],
+    q: &'a [u16; 128],
+    s: &[u8],
+    f: Footprint,
+    lanes: &mut [u16; LANES],
+) -> Outcome
+    requires { ⌜ (Lent (now rev) (now t) (now q)) × ((length (now s) ≡ 16) × ((isVoid (bytes 16 (now s)) ≡ false) × (listed f ≡ true))) ⌝ }
+    ensures { λ r. ⌜ (r ≡ outcomeOf (now (s .entry)) f) × (now (lanes .exit) ≡ lanesIn (now (s .entry)) f (now (lanes .entry))) ⌝ }
+{
+    let b = bits_load::load(s);
     let answer = block_ordinary::decode_ordinary(rev, t, q, b, f, lanes);
     if answer == answers::LEGAL {
         return Outcome { answer, word: 0 };
@@ -67,11 +81,17 @@ pub fn decode_lanes<'a>(
     }
 }
 
-// Paints the words of a block at a listed footprint and gives the answer.
+// Paints the words of a block at a listed footprint and gives the answer. The tables are made for a block that is to be decoded alone.
 fn decode_words(s: &[u8], f: Footprint, out: &mut [u32]) -> usize
     requires { ⌜ (length (now s) ≡ 16) × ((listed f ≡ true) × (texelsOf f ≤ length (now out))) ⌝ }
     ensures { λ a. ⌜ (a ≡ outcomeOf (now (s .entry)) f .answer) × (now (out .exit) ≡ put (wordAt (now (s .entry)) f) 0 (texelsOf f) (now (out .entry))) ⌝ }
 {
+    let n = f.width * f.height;
+    let v = void_outcome(s);
+    if v.answer == answers::VOID_EXTENT {
+        lanes::fill(v.word, out, 0, n);
+        return v.answer;
+    }
     let tables = make_tables();
     let mut lanes = [0u16; LANES];
     let r = decode_lanes(
@@ -82,7 +102,6 @@ fn decode_words(s: &[u8], f: Footprint, out: &mut [u32]) -> usize
         f,
         &mut lanes,
     );
-    let n = f.width * f.height;
     if r.answer == answers::LEGAL {
         lanes::copy(&lanes, 0, out, 0, n);
         return answers::LEGAL;

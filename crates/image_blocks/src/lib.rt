@@ -63,6 +63,11 @@ fn paint_block<'a>(
 {
     let start = 16 * at.block;
     let end = start + 16;
+    let v = block::void_outcome(&data[start..end]);
+    if v.answer == answers::VOID_EXTENT {
+        image_window::fill_block(v.word, m, at.column, at.row, out);
+        return v.answer;
+    }
     let r = block::decode_lanes(rev, t, q, &data[start..end], m.footprint, lanes);
     if r.answer == answers::LEGAL {
         image_window::copy_block(lanes, m, at.column, at.row, out);

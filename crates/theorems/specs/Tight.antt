@@ -57,7 +57,7 @@ use Rattle.texels.specs.declared.Starts.{Starts}
 use Rattle.block_void.specs.Void.{voidWord}
 use Rattle.block_map.specs.Answer.{answerOf, blockMap}
 use Rattle.block_ordinary.specs.Ordinary.{lanesOf}
-use Rattle.block.specs.Block.{theTables, outcomeOf, lanesIn, paintedOf}
+use Rattle.block.specs.Block.{theTables, outcomeOf, lanesIn, paintedOf, voidOutcome}
 use Rattle.block.specs.declared.Tables.{Tables}
 use Rattle.block.specs.declared.Outcome.{Outcome}
 
@@ -299,6 +299,9 @@ decode-ordinary b f h = both ℕ (List ℕ) (answer (fieldsOf (valueOf b)) f) (l
 
 pub make-tables : Tight Tables (λ r. r ≡ theTables)
 make-tables = one Tables theTables
+
+pub void-outcome : (s : List ℕ) → Tight Outcome (λ r. r ≡ voidOutcome s)
+void-outcome s = one Outcome (voidOutcome s)
 
 pub decode-lanes : (s : List ℕ) (f : Footprint) (h : List ℕ) → TightBoth Outcome (List ℕ) (λ r lanes. (r ≡ outcomeOf s f) × (lanes ≡ lanesIn s f h))
 decode-lanes s f h = both Outcome (List ℕ) (outcomeOf s f) (lanesIn s f h)
