@@ -15,7 +15,7 @@ use Rattle.laws.specs.Numbers.{choice}
 use mathlib.Core.List.{List}
 use Rattle.laws.specs.Lists.{texels, put, putAt, put-row, put-same}
 use Rattle.partition.specs.Partition.{xorDown, xorUp, addUp, subUp, hash52, seedOf, byBit, byCount, shiftX, shiftY, factor, ramp, largest, select, scaleOf, partitionAt}
-use Rattle.partition.specs.Ramps.{Gentle, RampOf, movedTo, inRowOfTwo, inRowOfFour, rampAt, ofTwo, ofFour, selectAt}
+use Rattle.partition.specs.Ramps.{Gentle, RampOf, movedTo, inRowOfTwo, inRowOfFour, rampAt, ofTwo, ofFour}
 use Rattle.partition.specs.declared.Ramp.{Ramp}
 use Rattle.footprint.specs.Footprints.{texelsOf, mostTexels}
 use Rattle.footprint.specs.Sides.{Sides}
@@ -212,34 +212,33 @@ flat-zero s t = rw (zero-mul t, zero-mul s)
 pub flat-gentle : Gentle (record { start = 0; along = 0; down = 0 })
 flat-gentle = record { start = omega arith; along = omega arith; down = omega arith }
 
-module _ (seed scale : ℕ) (f : Footprint) (s u : List ℕ) where
-  pub of-two : (a b : Ramp) → RampOf seed 2 0 scale a → RampOf seed 2 1 scale b → u ≡ put (texels (ofTwo a b) (f .width)) 0 (texelsOf f) s
-      → u ≡ put (selectAt seed 2 scale f) 0 (texelsOf f) s
-  unfolding ofTwo select
-  of-two a b ra rb q =
-      q ∙ put-same _ _ 0 (texelsOf f) s (λ k l h. rw (ra .value (k % f .width) (k / f .width), rb .value (k % f .width) (k / f .width)))
+-- the three ways out, by the number of partitions
+module _ (number parts scale : ℕ) (f : Footprint) (s u : List ℕ) (es : scale ≡ scaleOf f) where
+  abbrev Ramps : ℕ → Ramp → Type 0
+  Ramps i k = RampOf (seedOf number parts) parts i scale k
 
-  pub of-three : (a b c : Ramp) → RampOf seed 3 0 scale a → RampOf seed 3 1 scale b → RampOf seed 3 2 scale c
-      → u ≡ put (texels (ofFour a b c (record { start = 0; along = 0; down = 0 })) (f .width)) 0 (texelsOf f) s → u ≡ put (selectAt seed 3 scale f) 0 (texelsOf f) s
-  unfolding ofFour select
-  of-three a b c ra rb rc q =
+  abbrev Put : (ℕ → ℕ) → Type 0
+  Put g = u ≡ put g 0 (texelsOf f) s
+
+  pub of-two : (a b : Ramp) → parts ≡ 2 → Ramps 0 a → Ramps 1 b → Put (texels (ofTwo a b) (f .width)) → Put (partitionAt number parts f)
+  unfolding ofTwo partitionAt select
+  of-two a b e ra rb q =
       q ∙ put-same _ _ 0 (texelsOf f) s
-      (λ k l h. rw (ra .value (k % f .width) (k / f .width), rb .value (k % f .width) (k / f .width), rc .value (k % f .width) (k / f .width), flat-zero (k % f .width) (k / f .width)))
+      (λ k l h. rw (lt-ltb parts 3 (omega arith), lt-ltb parts 4 (omega arith), ra .value (k % f .width) (k / f .width), rb .value (k % f .width) (k / f .width), es))
 
-  pub of-four : (a b c d : Ramp) → RampOf seed 4 0 scale a → RampOf seed 4 1 scale b → RampOf seed 4 2 scale c → RampOf seed 4 3 scale d
-      → u ≡ put (texels (ofFour a b c d) (f .width)) 0 (texelsOf f) s → u ≡ put (selectAt seed 4 scale f) 0 (texelsOf f) s
-  unfolding ofFour select
-  of-four a b c d ra rb rc rd q =
+  pub of-three : (a b c : Ramp) → parts ≡ 3 → Ramps 0 a → Ramps 1 b → Ramps 2 c → Put (texels (ofFour a b c (record { start = 0; along = 0; down = 0 })) (f .width))
+      → Put (partitionAt number parts f)
+  unfolding ofFour partitionAt select
+  of-three a b c e ra rb rc q =
       q ∙ put-same _ _ 0 (texelsOf f) s
-      (λ k l h. rw (ra .value (k % f .width) (k / f .width), rb .value (k % f .width) (k / f .width), rc .value (k % f .width) (k / f .width), rd .value (k % f .width) (k / f .width)))
+      (λ k l h. rw (le-ltb parts 3 (omega arith), lt-ltb parts 4 (omega arith), ra .value (k % f .width) (k / f .width), rb .value (k % f .width) (k / f .width), rc .value (k % f .width) (k / f .width), flat-zero (k % f .width) (k / f .width), es))
 
--- an arm of the choice by the count
-pub of-count : (number parts count scale : ℕ) (f : Footprint) (s u : List ℕ) → scale ≡ scaleOf f → parts ≡ count
-    → u ≡ put (selectAt (seedOf number parts) count scale f) 0 (texelsOf f) s → u ≡ put (partitionAt number parts f) 0 (texelsOf f) s
-unfolding partitionAt
-of-count number parts count scale f s u es e q =
-    q ∙ ap (λ (n : ℕ). put (selectAt (seedOf number parts) n scale f) 0 (texelsOf f) s) (sym e) ∙ ap (λ (n : ℕ). put (selectAt (seedOf number parts) parts n f) 0 (texelsOf f) s) es
+  pub of-four : (a b c d : Ramp) → 4 ≤ parts → Ramps 0 a → Ramps 1 b → Ramps 2 c → Ramps 3 d → Put (texels (ofFour a b c d) (f .width)) → Put (partitionAt number parts f)
+  unfolding ofFour partitionAt select
+  of-four a b c d e ra rb rc rd q =
+      q ∙ put-same _ _ 0 (texelsOf f) s
+      (λ k l h. rw (le-ltb parts 3 (omega arith), le-ltb parts 4 (omega arith), ra .value (k % f .width) (k / f .width), rb .value (k % f .width) (k / f .width), rc .value (k % f .width) (k / f .width), rd .value (k % f .width) (k / f .width), es))
 
 -- a count that is neither two nor three
-pub last-count : (parts : ℕ) → 2 ≤ parts → parts ≤ 4 → (parts ≡ 2 → ⊥) → (parts ≡ 3 → ⊥) → parts ≡ 4
-last-count parts l h p q = omega arith
+pub last-count : (parts : ℕ) → 2 ≤ parts → (parts ≡ 2 → ⊥) → (parts ≡ 3 → ⊥) → 4 ≤ parts
+last-count parts l p q = omega arith

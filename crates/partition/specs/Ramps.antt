@@ -1,9 +1,8 @@
 -- A ramp as the code holds it, and the partition of a texel by two ramps or by four.
 -- Assumes nothing.
 use mathlib.Core.Path.{_≡_}
-use Prim.Native.Nat.{ℕ, _+_, _*_, _/_, _%_, _≤_, _<_}
-use Rattle.footprint.specs.declared.Footprint.{Footprint}
-use Rattle.partition.specs.Partition.{ramp, largest, select}
+use Prim.Native.Nat.{ℕ, _+_, _*_, _%_, _≤_, _<_}
+use Rattle.partition.specs.Partition.{ramp, largest}
 use Rattle.partition.specs.declared.Ramp.{Ramp}
 
 -- no sum over a footprint leaves 16 bits
@@ -46,7 +45,3 @@ ofFour a b c d s t = largest (rampAt a s t) (rampAt b s t) (rampAt c s t) (rampA
 pub record RampOf (seed parts i scale : ℕ) (k : Ramp) : Type 0 where
   pub gentle : Gentle k
   pub value : (s t : ℕ) → rampAt k s t ≡ ramp seed parts i (scale * s) (scale * t)
-
--- the partition of texel i of a footprint, row by row, over coordinates times scale
-abbrev pub selectAt : ℕ → ℕ → ℕ → Footprint → ℕ → ℕ
-selectAt seed parts scale f i = select seed parts (scale * (i % f .width)) (scale * (i / f .width))

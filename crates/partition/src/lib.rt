@@ -5,7 +5,7 @@ ghost use Rattle.laws.specs.Lists.{put, putAt, texels};
 ghost use Rattle.partition.specs.Partition.{hash52, byBit, byCount, shiftX, shiftY, factor, largest, scaleOf, partitionAt};
 ghost use Rattle.footprint.specs.Footprints.{texelsOf, mostTexels};
 ghost use Rattle.footprint.specs.Sides.{Sides};
-ghost use Rattle.partition.specs.Ramps.{Gentle, RampOf, movedTo, inRow, inRowOfTwo, inRowOfFour, ofTwo, ofFour, selectAt};
+ghost use Rattle.partition.specs.Ramps.{Gentle, RampOf, movedTo, inRow, inRowOfTwo, inRowOfFour, ofTwo, ofFour};
 use footprint::Footprint;
 use footprint::TEXELS;
 
@@ -189,55 +189,8 @@ fn scale_of(f: Footprint) -> u16
     if f.width * f.height < 31 { 2 } else { 1 }
 }
 
-// Two partitions, by the ramps of the hash r of a seed.
-fn put_two(out: &mut [u8; TEXELS], r: u32, seed: u32, scale: u16, f: Footprint)
-    requires { ⌜ (r ≡ hash52 seed) × ((scale ≤ 2) × (Sides f)) ⌝ }
-    ensures { λ _. ⌜ now (out .exit) ≡ put (selectAt seed 2 scale f) 0 (texelsOf f) (now (out .entry)) ⌝ }
-{
-    two(
-        out,
-        ramp_of(r, seed, 2, 0, scale),
-        ramp_of(r, seed, 2, 1, scale),
-        f,
-    )
-}
-
-// Three partitions: the fourth ramp is flat.
-fn put_three(out: &mut [u8; TEXELS], r: u32, seed: u32, scale: u16, f: Footprint)
-    requires { ⌜ (r ≡ hash52 seed) × ((scale ≤ 2) × (Sides f)) ⌝ }
-    ensures { λ _. ⌜ now (out .exit) ≡ put (selectAt seed 3 scale f) 0 (texelsOf f) (now (out .entry)) ⌝ }
-{
-    let flat = Ramp {
-        start: 0,
-        along: 0,
-        down: 0,
-    };
-    four(
-        out,
-        ramp_of(r, seed, 3, 0, scale),
-        ramp_of(r, seed, 3, 1, scale),
-        ramp_of(r, seed, 3, 2, scale),
-        flat,
-        f,
-    )
-}
-
-// Four partitions.
-fn put_four(out: &mut [u8; TEXELS], r: u32, seed: u32, scale: u16, f: Footprint)
-    requires { ⌜ (r ≡ hash52 seed) × ((scale ≤ 2) × (Sides f)) ⌝ }
-    ensures { λ _. ⌜ now (out .exit) ≡ put (selectAt seed 4 scale f) 0 (texelsOf f) (now (out .entry)) ⌝ }
-{
-    four(
-        out,
-        ramp_of(r, seed, 4, 0, scale),
-        ramp_of(r, seed, 4, 1, scale),
-        ramp_of(r, seed, 4, 2, scale),
-        ramp_of(r, seed, 4, 3, scale),
-        f,
-    )
-}
-
-// Puts the partition of each texel of a footprint, row by row. The hash and the ramps are worked out once a block.
+// Puts the partition of each texel of a footprint, row by row. The hash and the ramps are worked out once a block; with three partitions the
+// fourth ramp is flat.
 pub fn select_partition(out: &mut [u8; TEXELS], number: u32, parts: usize, f: Footprint)
     requires { ⌜ (number < 1024) × (((2 ≤ parts) × (parts ≤ 4)) × (Sides f)) ⌝ }
     ensures { λ _. ⌜ now (out .exit) ≡ put (partitionAt number parts f) 0 (texelsOf f) (now (out .entry)) ⌝ }
@@ -245,9 +198,20 @@ pub fn select_partition(out: &mut [u8; TEXELS], number: u32, parts: usize, f: Fo
     let seed = number + 1024 * (parts as u32 - 1);
     let r = hash(seed);
     let scale = scale_of(f);
-    match parts {
-        2 => put_two(out, r, seed, scale, f),
-        3 => put_three(out, r, seed, scale, f),
-        _ => put_four(out, r, seed, scale, f),
+    let a = ramp_of(r, seed, parts, 0, scale);
+    let b = ramp_of(r, seed, parts, 1, scale);
+    if parts == 2 {
+        return two(out, a, b, f);
     }
+    let c = ramp_of(r, seed, parts, 2, scale);
+    if parts == 3 {
+        let flat = Ramp {
+            start: 0,
+            along: 0,
+            down: 0,
+        };
+        return four(out, a, b, c, flat, f);
+    }
+    let d = ramp_of(r, seed, parts, 3, scale);
+    four(out, a, b, c, d, f)
 }

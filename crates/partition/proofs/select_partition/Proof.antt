@@ -1,6 +1,7 @@
--- Each arm has the promise of its count; the last is left where the count is neither two nor three.
+-- The ramps are those of the definition for the block's count of partitions, so the largest of them at each texel is the definition's.
+use lib.Dec.{lit<}
+use Rattle.partition.specs.PartitionLaws.{of-two, of-three, of-four, flat-gentle, last-count}
 use borrow.Author.Needs.{needs}
-use Rattle.partition.specs.PartitionLaws.{of-count, last-count}
 use Rattle.partition.proofs.select_partition.Statement.{statement}
 use Rattle.partition.proofs.select_partition.Tie as tie
 
@@ -22,28 +23,62 @@ hash-requires c κs = tt
 scale-of-requires : tie.Need-scale-of-requires
 scale-of-requires c κs = c .before .pre .1 .1
 
-put-two-requires : tie.Need-put-two-requires
-put-two-requires c κs = (c .before .before .before .hash .ensures, (c .before .before .scale-of .ensures .1, c .before .before .before .before .pre .1 .1))
+ramp-of-requires : tie.Need-ramp-of-requires
+ramp-of-requires c κs = (c .before .hash .ensures, (lit< tt, c .scale-of .ensures .1))
 
-put-three-requires : tie.Need-put-three-requires
-put-three-requires c κs = (c .before .before .before .hash .ensures, (c .before .before .scale-of .ensures .1, c .before .before .before .before .pre .1 .1))
+ramp-of-requires-2 : tie.Need-ramp-of-requires-2
+ramp-of-requires-2 c κs = let scaled = c .before in (scaled .before .hash .ensures, (lit< tt, scaled .scale-of .ensures .1))
 
-put-four-requires : tie.Need-put-four-requires
-put-four-requires c κs = (c .before .before .before .hash .ensures, (c .before .before .scale-of .ensures .1, c .before .before .before .before .pre .1 .1))
+two-requires : tie.Need-two-requires
+two-requires c κs =
+    let second = c .before .before in
+    (second .before .ramp-of .ensures .gentle, (second .ramp-of2 .ensures .gentle, second .before .before .before .before .pre .1 .1))
 
 returns : tie.Need-returns
-returns c = let s = c .before .before .before .before .before in
-    of-count (s .args .number) (s .args .parts) 2 _ (s .args .f) _ _ (c .before .before .before .scale-of .ensures .0) (c .before .before .match .keys1) (c .put-two .ensures)
+returns c =
+    let second = c .before .before .before in
+    let scaled = second .before .before in
+    let start = scaled .before .before in
+    of-two (start .args .number) (start .args .parts) _ (start .args .f) _ _ (scaled .scale-of .ensures .0) _ _ (c .before .before .if1 .taken) (second .before .ramp-of .ensures)
+    (second .ramp-of2 .ensures) (c .two .ensures)
+
+ramp-of-requires-3 : tie.Need-ramp-of-requires-3
+ramp-of-requires-3 c κs = let scaled = c .before .before .before in (scaled .before .hash .ensures, (lit< tt, scaled .scale-of .ensures .1))
+
+four-requires : tie.Need-four-requires
+four-requires c κs =
+    let third = c .before .before in
+    let second = third .before .before in
+    let start = second .before .before .before .before in
+    (second .before .ramp-of .ensures .gentle, (second .ramp-of2 .ensures .gentle, (third .ramp-of3 .ensures .gentle, (flat-gentle, start .pre .1 .1))))
 
 returns-2 : tie.Need-returns-2
-returns-2 c = let s = c .before .before .before .before .before in
-    of-count (s .args .number) (s .args .parts) 3 _ (s .args .f) _ _ (c .before .before .before .scale-of .ensures .0) (c .before .before .match .keys2) (c .put-three .ensures)
+returns-2 c =
+    let third = c .before .before .before in
+    let second = third .before .before in
+    let scaled = second .before .before in
+    let start = scaled .before .before in
+    of-three (start .args .number) (start .args .parts) _ (start .args .f) _ _ (scaled .scale-of .ensures .0) _ _ _ (c .before .before .if2 .taken) (second .before .ramp-of .ensures)
+    (second .ramp-of2 .ensures) (third .ramp-of3 .ensures) (c .four .ensures)
+
+ramp-of-requires-4 : tie.Need-ramp-of-requires-4
+ramp-of-requires-4 c κs = let scaled = c .before .before .before .before .before in (scaled .before .hash .ensures, (lit< tt, scaled .scale-of .ensures .1))
+
+four-requires-2 : tie.Need-four-requires-2
+four-requires-2 c κs =
+    let third = c .before .before .before in
+    let second = third .before .before in
+    let start = second .before .before .before .before in
+    (second .before .ramp-of .ensures .gentle, (second .ramp-of2 .ensures .gentle, (third .ramp-of3 .ensures .gentle, (c .before .ramp-of4 .ensures .gentle, start .pre .1 .1))))
 
 returns-3 : tie.Need-returns-3
-returns-3 c = let s = c .before .before .before .before .before in
-    let r = c .before .before .match .rest in
-    of-count (s .args .number) (s .args .parts) 4 _ (s .args .f) _ _ (c .before .before .before .scale-of .ensures .0) (last-count (s .args .parts) (s .pre .1 .0 .0) (s .pre .1 .0 .1) (r .0 .1) (r .1))
-    (c .put-four .ensures)
+returns-3 c =
+    let third = c .before .before .before .before in
+    let second = third .before .before in
+    let scaled = second .before .before in
+    let start = scaled .before .before in
+    of-four (start .args .number) (start .args .parts) _ (start .args .f) _ _ (scaled .scale-of .ensures .0) _ _ _ _ (last-count _ (start .pre .1 .0 .0) (third .before .if1 .left) (c .before .before .before .if2 .left))
+    (second .before .ramp-of .ensures) (second .ramp-of2 .ensures) (third .ramp-of3 .ensures) (c .before .before .ramp-of4 .ensures) (c .four2 .ensures)
 
 pub select-partition-spec : {M : Type 1} → statement M
 select-partition-spec =
@@ -55,9 +90,13 @@ select-partition-spec =
     add-seed
     hash-requires
     scale-of-requires
-    put-two-requires
-    put-three-requires
-    put-four-requires
+    ramp-of-requires
+    ramp-of-requires-2
+    two-requires
     returns
+    ramp-of-requires-3
+    four-requires
     returns-2
+    ramp-of-requires-4
+    four-requires-2
     returns-3)
