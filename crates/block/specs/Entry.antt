@@ -10,40 +10,44 @@ use lib.Dec.{eqb, ltb}
 use lib.ListN.{length, replicate, length-replicate}
 use borrow.Author.Tests.{eq-eqb, ne-eqb, lt-ltb, le-ltb}
 use Rattle.laws.specs.Lists.{put, putAt, length-put, put-same, putAt-first}
-use Rattle.bits.specs.Bits.{bytes}
 use Rattle.footprint.specs.Footprints.{texelsOf, listed}
 use Rattle.footprint.specs.declared.Footprint.{Footprint}
 use Rattle.lanes.specs.Lanes.{mostLanes, joinedAt}
 use Rattle.params_rules.specs.Fields.{fieldsOf, answer}
 use Rattle.params_rules.specs.FieldLaws.{answer-lt}
 use Rattle.block_map.specs.Answer.{answerOf}
-use Rattle.block.specs.Block.{wordAt, paintedOf, outcomeOf, lanesIn}
+use Rattle.block_ordinary.specs.Ordinary.{lanesOf}
+use Rattle.block.specs.Block.{blockBits, wordAt, paintedOf, outcomeOf}
 use Rattle.block.specs.OutcomeLaws.{word-one, word-legal}
 use Rattle.block.specs.declared.Outcome.{Outcome}
 
--- ---- the words that a block's decoding leaves
-module _ (s : List ℕ) (foot : Footprint) (r : Outcome) (e : r ≡ outcomeOf s foot) (out now : List ℕ) where
-  answer-is : r .answer ≡ outcomeOf s foot .answer
-  answer-is = ap (λ (q : Outcome). q .answer) e
+-- ---- the words that a block's decoding leaves, v being the number of its bytes s
+module _ (s : List ℕ) (foot : Footprint) (v : ℕ) (ev : v ≡ blockBits s) (r : Outcome) (er : r ≡ outcomeOf v foot) (out now : List ℕ) where
+  outcome-is : r ≡ outcomeOf (blockBits s) foot
+  outcome-is = er ∙ ap (λ (x : ℕ). outcomeOf x foot) ev
+
+  answer-is : r .answer ≡ outcomeOf (blockBits s) foot .answer
+  answer-is = ap (λ (q : Outcome). q .answer) outcome-is
 
   abbrev Painted : ℕ → Type 0
-  Painted a = (a ≡ outcomeOf s foot .answer) × (now ≡ put (wordAt s foot) 0 (texelsOf foot) out)
+  Painted a = (a ≡ outcomeOf (blockBits s) foot .answer) × (now ≡ put (wordAt s foot) 0 (texelsOf foot) out)
 
-  pub words-legal : (lanes : List ℕ) → listed foot ≡ true → r .answer ≡ 0 → lanes ≡ lanesIn s foot (replicate mostLanes 0)
+  pub words-legal : (lanes : List ℕ) → listed foot ≡ true → r .answer ≡ 0 → lanes ≡ lanesOf v foot (replicate mostLanes 0)
       → now ≡ putAt (λ (i : ℕ). joinedAt lanes (0 + i)) 0 (texelsOf foot) out → Painted 0
   words-legal lanes l z d p =
-      let a : outcomeOf s foot .answer ≡ 0 = sym answer-is ∙ z in (
+      let a : outcomeOf (blockBits s) foot .answer ≡ 0 = sym answer-is ∙ z in
+      let h : lanes ≡ lanesOf (blockBits s) foot (replicate mostLanes 0) = d ∙ ap (λ (x : ℕ). lanesOf x foot (replicate mostLanes 0)) ev in (
         sym a,
         p ∙ putAt-first _ (texelsOf foot) out
             ∙ put-same _ _ 0 (texelsOf foot) out
-            (λ k x y. ap (joinedAt lanes) (zero-add k) ∙ word-legal s foot l (replicate mostLanes 0) lanes k (length-replicate {A = ℕ} mostLanes 0) d a y),
+            (λ k x y. ap (joinedAt lanes) (zero-add k) ∙ word-legal s foot l (replicate mostLanes 0) lanes k (length-replicate {A = ℕ} mostLanes 0) h a y),
       )
 
   pub words-one : (r .answer ≡ 0 → ⊥) → now ≡ putAt (λ (i : ℕ). r .word) 0 (texelsOf foot) out → Painted (r .answer)
   words-one n p = (
     answer-is,
     p ∙ putAt-first _ (texelsOf foot) out
-        ∙ put-same _ _ 0 (texelsOf foot) out (λ k x y. ap (λ (q : Outcome). q .word) e ∙ word-one s foot k (λ z. n (answer-is ∙ z))),
+        ∙ put-same _ _ 0 (texelsOf foot) out (λ k x y. ap (λ (q : Outcome). q .word) outcome-is ∙ word-one s foot k (λ z. n (answer-is ∙ z))),
   )
 
 -- ---- the ways out
@@ -64,10 +68,10 @@ module _ (s : List ℕ) (foot : Footprint) (out : List ℕ) where
   no-room h l r = rw (eq-eqb (length s) 16 h, l, lt-ltb (length out) (texelsOf foot) r) (refl, refl)
 
   pub painted : (a : ℕ) (now : List ℕ) → length s ≡ 16 → listed foot ≡ true → texelsOf foot ≤ length out
-      → (a ≡ outcomeOf s foot .answer) × (now ≡ put (wordAt s foot) 0 (texelsOf foot) out) → Answered a now
+      → (a ≡ outcomeOf (blockBits s) foot .answer) × (now ≡ put (wordAt s foot) 0 (texelsOf foot) out) → Answered a now
   unfolding answerOf paintedOf outcomeOf
   painted a now l f r d =
-      rw (eq-eqb (length s) 16 l, f, le-ltb (length out) (texelsOf foot) r, lt-ltb (answer (fieldsOf (bytes 16 s)) foot) 20 (answer-lt (fieldsOf (bytes 16 s)) foot)) d
+      rw (eq-eqb (length s) 16 l, f, le-ltb (length out) (texelsOf foot) r, lt-ltb (answer (fieldsOf (blockBits s)) foot) 20 (answer-lt (fieldsOf (blockBits s)) foot)) d
 
 -- what is painted has the length of what was there
 pub length-painted : (s : List ℕ) (foot : Footprint) (out : List ℕ) → length (paintedOf s foot out) ≡ length out

@@ -5,33 +5,18 @@ ghost use Prim.Native.Nat.{_≤_};
 ghost use lib.ListN.{length};
 ghost use Rattle.laws.specs.Lists.{put};
 ghost use Rattle.footprint.specs.Footprints.{texelsOf, listed};
-ghost use Rattle.bits.specs.Bits.{bytes};
+ghost use Rattle.bits.specs.Blocks.{valueOf};
 ghost use Rattle.params_low.specs.Low.{isVoid};
-ghost use Rattle.block_ordinary.specs.Facts.{Lent};
+ghost use Rattle.block_tables.specs.Tables.{Lent};
+ghost use Rattle.block_ordinary.specs.Ordinary.{lanesOf};
 ghost use Rattle.block_map.specs.Answer.{answerOf};
-ghost use Rattle.block.specs.Block.{theTables, wordAt, voidOutcome, outcomeOf, lanesIn, paintedOf};
+ghost use Rattle.block.specs.Block.{blockBits, wordAt, outcomeOf, paintedOf};
+use bits::Block;
 use footprint::Footprint;
 use lanes::LANES;
 
 // What a block that breaks a rule is painted with.
 pub const MAGENTA: u32 = 0xffff_00ff;
-
-// The tables that decoding is lent.
-pub struct Tables {
-    pub reversal: [u8; 256],
-    pub trits: [u16; 256],
-    pub quints: [u16; 128],
-}
-
-pub fn make_tables() -> Tables
-    ensures { λ r. ⌜ r ≡ theTables ⌝ }
-{
-    Tables {
-        reversal: bits_reversal::reversal(),
-        trits: sequence_ranges::trits(),
-        quints: sequence_ranges::quints(),
-    }
-}
 
 // What a block came to: its answer, and its one word where it is not legal.
 pub struct Outcome {
@@ -39,39 +24,25 @@ pub struct Outcome {
     pub word: u32,
 }
 
-// What a void block of sixteen bytes comes to. Of any other block the answer is 0: it is to be decoded.
-pub fn void_outcome(s: &[u8]) -> Outcome
-    requires { ⌜ length (now s) ≡ 16 ⌝ }
-    ensures { λ r. ⌜ r ≡ voidOutcome (now (s .entry)) ⌝ }
-{
-    let b = bits_load::load(s);
-    if params_low::is_void(b) {
-        return Outcome {
-            answer: answers::VOID_EXTENT,
-            word: block_void::void_color(b),
-        };
-    }
-    Outcome {
-        answer: answers::LEGAL,
-        word: 0,
-    }
-}
-
-// Decodes a block of sixteen bytes that is not void, at a listed footprint, with lent tables. The lanes of a legal block's words are put into
-// `lanes`; a block that breaks a rule is magenta, and puts none.
+// Decodes a block that is not void, at a listed footprint, with lent tables. The lanes of a legal block's words are put into `lanes`; a block
+// that breaks a rule is magenta, and puts none. Block and footprint are made anew of their numbers, which are then handed over in registers.
 pub fn decode_lanes<'a>(
     rev: &'a [u8; 256],
     t: &'a [u16; 256],
     q: &'a [u16; 128],
-    s: &[u8],
+    b: Block,
     f: Footprint,
     lanes: &mut [u16; LANES],
 ) -> Outcome
-    requires { ⌜ (Lent (now rev) (now t) (now q)) × ((length (now s) ≡ 16) × ((isVoid (bytes 16 (now s)) ≡ false) × (listed f ≡ true))) ⌝ }
-    ensures { λ r. ⌜ (r ≡ outcomeOf (now (s .entry)) f) × (now (lanes .exit) ≡ lanesIn (now (s .entry)) f (now (lanes .entry))) ⌝ }
+    requires { ⌜ (Lent (now rev) (now t) (now q)) × ((isVoid (valueOf b) ≡ false) × (listed f ≡ true)) ⌝ }
+    ensures { λ r. ⌜ (r ≡ outcomeOf (valueOf b) f) × (now (lanes .exit) ≡ lanesOf (valueOf b) f (now (lanes .entry))) ⌝ }
 {
-    let b = bits_load::load(s);
-    let answer = block_ordinary::decode_ordinary(rev, t, q, b, f, lanes);
+    let own = Block { lo: b.lo, hi: b.hi };
+    let foot = Footprint {
+        width: f.width,
+        height: f.height,
+    };
+    let answer = block_ordinary::decode_ordinary(rev, t, q, own, foot, lanes);
     if answer == answers::LEGAL {
         return Outcome { answer, word: 0 };
     }
@@ -84,21 +55,22 @@ pub fn decode_lanes<'a>(
 // Paints the words of a block at a listed footprint and gives the answer. The tables are made for a block that is to be decoded alone.
 fn decode_words(s: &[u8], f: Footprint, out: &mut [u32]) -> usize
     requires { ⌜ (length (now s) ≡ 16) × ((listed f ≡ true) × (texelsOf f ≤ length (now out))) ⌝ }
-    ensures { λ a. ⌜ (a ≡ outcomeOf (now (s .entry)) f .answer) × (now (out .exit) ≡ put (wordAt (now (s .entry)) f) 0 (texelsOf f) (now (out .entry))) ⌝ }
+    ensures { λ a. ⌜ (a ≡ outcomeOf (blockBits (now (s .entry))) f .answer) × (now (out .exit) ≡ put (wordAt (now (s .entry)) f) 0 (texelsOf f) (now (out .entry))) ⌝ }
 {
     let n = f.width * f.height;
-    let v = void_outcome(s);
-    if v.answer == answers::VOID_EXTENT {
-        lanes::fill(v.word, out, 0, n);
-        return v.answer;
+    let b = block_load::load(s);
+    let a = block_void::void_answer(b);
+    if a == answers::VOID_EXTENT {
+        lanes::fill(block_void::void_color(b), out, 0, n);
+        return a;
     }
-    let tables = make_tables();
+    let tables = block_tables::make_tables();
     let mut lanes = [0u16; LANES];
     let r = decode_lanes(
         &tables.reversal,
         &tables.trits,
         &tables.quints,
-        s,
+        b,
         f,
         &mut lanes,
     );

@@ -10,7 +10,7 @@ pub fn block_map(s: &[u8], f: Footprint) -> BlockMap
 {
     if s.len() == 16 {
         if footprint::is_listed(f) {
-            return params_map::decode_block_map(bits_load::load(s), f);
+            return params_map::decode_block_map(block_load::load(s), f);
         }
         return params_map::no_map(answers::FOOTPRINT);
     }

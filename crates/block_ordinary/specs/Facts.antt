@@ -2,12 +2,9 @@
 -- Assumes nothing.
 use mathlib.Core.Path.{_≡_, refl, sym, ap, _∙_}
 use mathlib.Core.Bool.{true}
-use mathlib.Core.List.{List}
 use Prim.Native.Nat.{ℕ, zero, suc, _/_, _≤_, _<_}
 use native.Mathlib.Omega.{arith}
 use lib.ListN.{getD}
-use Rattle.bits_reversal.specs.Reversals.{reversals}
-use Rattle.sequence_ranges.specs.Digits.{tritTable, quintTable}
 use Rattle.sequence_ranges.specs.Ranges.{rangeOf, totalOf}
 use Rattle.footprint.specs.Footprints.{listed}
 use Rattle.footprint.specs.Sides.{Sides, sides-of}
@@ -92,9 +89,3 @@ ready p v foot e z s =
       fits = record { sides = f; wide = (k .column, l .wide); high = (k .row, l .high); planes = (k .plane, k .planes); few = l .few };
       sides = f;
     })
-
--- the lent tables are the defined ones
-pub record Lent (r t q : List ℕ) : Type 0 where
-  pub reversal : r ≡ reversals
-  pub trits : t ≡ tritTable
-  pub quints : q ≡ quintTable

@@ -1,11 +1,17 @@
--- The colour of a void block. v is the block's number of 128 bits.
+-- The answer and the colour of a void block. v is the block's number of 128 bits.
 -- Assumes nothing.
 use mathlib.Core.Bool.{cond}
 use Prim.Native.Nat.{ℕ}
 use lib.Dec.{eqb}
 use Rattle.bits.specs.Bits.{bitsAt}
+use Rattle.answers.specs.Answers.{legal, voidExtent}
 use Rattle.half.specs.Half.{voidByteOf}
+use Rattle.params_low.specs.Low.{isVoid}
 use Rattle.blend.specs.Blend.{wordOf}
+
+-- of any other block the answer 0 says that it is to be decoded
+unfoldable pub voidAnswer : ℕ → ℕ
+voidAnswer v = cond (isVoid v) voidExtent legal
 
 -- four 16-bit numbers from bit 64 on: halves where bit 9 is set, and else the high byte of each
 unfoldable pub voidWord : ℕ → ℕ

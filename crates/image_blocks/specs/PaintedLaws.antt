@@ -17,9 +17,10 @@ use Rattle.footprint.specs.Footprints.{texelsOf}
 use Rattle.footprint.specs.Sides.{sides-of}
 use Rattle.lanes.specs.Lanes.{mostLanes, joinedAt}
 use Rattle.block_map.specs.Answer.{mapAnswer}
-use Rattle.block.specs.Block.{wordAt, lanesIn, outcomeOf}
-use Rattle.block.specs.OutcomeLaws.{outcome-answer, word-legal, word-one, lanes-length}
+use Rattle.block_ordinary.specs.Ordinary.{lanesOf}
+use Rattle.block.specs.Block.{blockBits, wordAt, outcomeOf}
 use Rattle.block.specs.declared.Outcome.{Outcome}
+use Rattle.block.specs.OutcomeLaws.{outcome-answer, word-legal, word-one, lanes-length}
 use Rattle.image_shape.specs.Shapes.{acrossOf, totalOf, pixelsOf, blockOf, texelOf, bytesOf}
 use Rattle.image_shape.specs.ShapeLaws.{Bounded, Sized, sized-bounded}
 use Rattle.image_shape.specs.declared.Shape.{Shape}
@@ -93,16 +94,17 @@ bytes-length d t b e h =
 pub part-is : (d : List ℕ) (b : ℕ) → take (16 * b + 16 - 16 * b) (drop (16 * b) d) ≡ bytesOf d b
 part-is d b = let n : 16 * b + 16 - 16 * b ≡ 16 = omega arith in rw n
 
-pub part-length : (d : List ℕ) (m : Shape) (places b : ℕ) → Sized m (length d) places → b < totalOf m → length (take (16 * b + 16 - 16 * b) (drop (16 * b) d)) ≡ 16
-part-length d m places b s h = ap length (part-is d b) ∙ bytes-length d (totalOf m) b (s .bytes) h
-
--- x is the part of the data that a block's decoding was handed, r what that gave
-module _ (d : List ℕ) (m : Shape) (places b : ℕ) (s : Sized m (length d) places) (h : b < totalOf m) (x : List ℕ) (ex : x ≡ bytesOf d b) (r : Outcome) (er : r ≡ outcomeOf x (m .footprint)) where
+-- x is the part of the data that was loaded as a block, v that block's number, and r what it came to
+module _ (d : List ℕ) (m : Shape) (places b : ℕ) (s : Sized m (length d) places) (h : b < totalOf m) (x : List ℕ) (ex : x ≡ bytesOf d b)
+    (v : ℕ) (ev : v ≡ blockBits x) (r : Outcome) (er : r ≡ outcomeOf v (m .footprint)) where
   sixteen : length x ≡ 16
   sixteen = ap length ex ∙ bytes-length d (totalOf m) b (s .bytes) h
 
+  outcome-is : r ≡ outcomeOf (blockBits x) (m .footprint)
+  outcome-is = er ∙ ap (λ (y : ℕ). outcomeOf y (m .footprint)) ev
+
   answer-of : r .answer ≡ mapAnswer (bytesOf d b) (m .footprint)
-  answer-of = rw er (outcome-answer x (m .footprint) sixteen (s .footprint) ∙ ap (λ (y : List ℕ). mapAnswer y (m .footprint)) ex)
+  answer-of = rw outcome-is (outcome-answer x (m .footprint) sixteen (s .footprint) ∙ ap (λ (y : List ℕ). mapAnswer y (m .footprint)) ex)
 
   -- painted with g, which has the block's words
   painted-by : (c : ℕ) (g : ℕ → ℕ) (now out : List ℕ) → b ≡ c → ((t : ℕ) → t < texelsOf (m .footprint) → g t ≡ wordAt x (m .footprint) t)
@@ -119,17 +121,18 @@ module _ (d : List ℕ) (m : Shape) (places b : ℕ) (s : Sized m (length d) pla
   abbrev Painted : List ℕ → List ℕ → List ℕ → Type 0
   Painted lanes now out = (r .answer ≡ mapAnswer (bytesOf d b) (m .footprint)) × ((length lanes ≡ mostLanes) × (now ≡ paintedBlocks d m b (b + 1) out))
 
-  pub legal-painted : (c : ℕ) (before lanes now out : List ℕ) → b ≡ c → r .answer ≡ 0 → length before ≡ mostLanes → lanes ≡ lanesIn x (m .footprint) before
+  pub legal-painted : (c : ℕ) (before lanes now out : List ℕ) → b ≡ c → r .answer ≡ 0 → length before ≡ mostLanes → lanes ≡ lanesOf v (m .footprint) before
       → now ≡ marked (isIn m c (c + 1)) (λ (k : ℕ). joinedAt lanes (texelOf m k)) out → Painted lanes now out
   legal-painted c before lanes now out bc z l e en =
-      let y : outcomeOf x (m .footprint) .answer ≡ 0 = ap (λ (q : Outcome). q .answer) (sym er) ∙ z in
-      (answer-of, (lanes-length x (m .footprint) before lanes e ∙ l, painted-by c (joinedAt lanes) now out bc (λ t k. word-legal x (m .footprint) (s .footprint) before lanes t l e y k) en))
+      let y : outcomeOf (blockBits x) (m .footprint) .answer ≡ 0 = ap (λ (q : Outcome). q .answer) (sym outcome-is) ∙ z in
+      let f : lanes ≡ lanesOf (blockBits x) (m .footprint) before = e ∙ ap (λ (y : ℕ). lanesOf y (m .footprint) before) ev in
+      (answer-of, (lanes-length v (m .footprint) before lanes e ∙ l, painted-by c (joinedAt lanes) now out bc (λ t k. word-legal x (m .footprint) (s .footprint) before lanes t l f y k) en))
 
-  pub one-painted : (c : ℕ) (before lanes now out : List ℕ) → b ≡ c → (r .answer ≡ 0 → ⊥) → length before ≡ mostLanes → lanes ≡ lanesIn x (m .footprint) before
+  pub one-painted : (c : ℕ) (before lanes now out : List ℕ) → b ≡ c → (r .answer ≡ 0 → ⊥) → length before ≡ mostLanes → lanes ≡ lanesOf v (m .footprint) before
       → now ≡ marked (isIn m c (c + 1)) (λ (k : ℕ). r .word) out → Painted lanes now out
   one-painted c before lanes now out bc n l e en =
-      let y : outcomeOf x (m .footprint) .answer ≡ 0 → ⊥ = λ z. n (ap (λ (q : Outcome). q .answer) er ∙ z) in
-      (answer-of, (lanes-length x (m .footprint) before lanes e ∙ l, painted-by c (λ (t : ℕ). r .word) now out bc (λ t k. ap (λ (q : Outcome). q .word) er ∙ word-one x (m .footprint) t y) en))
+      let y : outcomeOf (blockBits x) (m .footprint) .answer ≡ 0 → ⊥ = λ z. n (ap (λ (q : Outcome). q .answer) outcome-is ∙ z) in
+      (answer-of, (lanes-length v (m .footprint) before lanes e ∙ l, painted-by c (λ (t : ℕ). r .word) now out bc (λ t k. ap (λ (q : Outcome). q .word) outcome-is ∙ word-one x (m .footprint) t y) en))
 
 -- ---- block after block
 -- A loop over the blocks from first to before end has come to one: out, which was s, has the blocks before it, and bad of them break a rule.

@@ -5,7 +5,7 @@ ghost use Prim.Native.Nat.{_+_, _-_, _^_, _≤_, _<_};
 ghost use lib.ListN.{length};
 ghost use Rattle.answers.specs.Answers.{isBad};
 ghost use Rattle.lanes.specs.Lanes.{mostLanes};
-ghost use Rattle.block_ordinary.specs.Facts.{Lent};
+ghost use Rattle.block_tables.specs.Tables.{Lent};
 ghost use Rattle.block_map.specs.Answer.{mapAnswer};
 ghost use Rattle.image_shape.specs.Shapes.{totalOf, bytesOf};
 ghost use Rattle.image_shape.specs.ShapeLaws.{Sized};
@@ -63,12 +63,13 @@ fn paint_block<'a>(
 {
     let start = 16 * at.block;
     let end = start + 16;
-    let v = block::void_outcome(&data[start..end]);
-    if v.answer == answers::VOID_EXTENT {
-        image_window::fill_block(v.word, m, at.column, at.row, out);
-        return v.answer;
+    let b = block_load::load(&data[start..end]);
+    let a = block_void::void_answer(b);
+    if a == answers::VOID_EXTENT {
+        image_window::fill_block(block_void::void_color(b), m, at.column, at.row, out);
+        return a;
     }
-    let r = block::decode_lanes(rev, t, q, &data[start..end], m.footprint, lanes);
+    let r = block::decode_lanes(rev, t, q, b, m.footprint, lanes);
     if r.answer == answers::LEGAL {
         image_window::copy_block(lanes, m, at.column, at.row, out);
         return answers::LEGAL;
@@ -82,7 +83,7 @@ pub fn paint_blocks(data: &[u8], m: Shape, first: usize, end: usize, out: &mut [
     requires { ⌜ Sized m (length (now «data»)) (length (now out)) × ((first ≤ end) × (end ≤ totalOf m)) ⌝ }
     ensures { λ r. ⌜ (r ≡ badIn (now («data» .entry)) m first (end - first)) × (now (out .exit) ≡ paintedBlocks (now («data» .entry)) m first end (now (out .entry))) ⌝ }
 {
-    let tables = block::make_tables();
+    let tables = block_tables::make_tables();
     let mut lanes = [0u16; LANES];
     let across = image_shape::along(m.width, m.footprint.width);
     let mut at = Spot {

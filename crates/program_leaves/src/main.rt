@@ -51,7 +51,7 @@ fn pair_at(ask: &[u8; 32], i: usize) -> usize
 
 fn block_of(ask: &[u8; 32]) -> Block {
     let s = &ask[..];
-    bits_load::load(&s[16..32])
+    block_load::load(&s[16..32])
 }
 
 fn put(out: &mut [u8; 288], i: usize, x: usize)

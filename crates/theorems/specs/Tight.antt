@@ -54,11 +54,12 @@ use Rattle.blend.specs.Blend.{ldrChannel, hdrChannel, wordOf}
 use Rattle.texels.specs.Texels.{texelWord}
 use Rattle.texels.specs.Kinds.{startsOf, Ahead, eitherOf, anyOf}
 use Rattle.texels.specs.declared.Starts.{Starts}
-use Rattle.block_void.specs.Void.{voidWord}
+use Rattle.block_void.specs.Void.{voidAnswer, voidWord}
 use Rattle.block_map.specs.Answer.{answerOf, blockMap}
 use Rattle.block_ordinary.specs.Ordinary.{lanesOf}
-use Rattle.block.specs.Block.{theTables, outcomeOf, lanesIn, paintedOf, voidOutcome}
-use Rattle.block.specs.declared.Tables.{Tables}
+use Rattle.block_tables.specs.Tables.{theTables}
+use Rattle.block_tables.specs.declared.Tables.{Tables}
+use Rattle.block.specs.Block.{outcomeOf, paintedOf}
 use Rattle.block.specs.declared.Outcome.{Outcome}
 
 -- ---- what is stated
@@ -290,6 +291,9 @@ module _ (n planes channel : ℕ) (ends : List Endpoints) (w map s : List ℕ) w
 pub void-color : (b : Block) → Tight ℕ (λ r. r ≡ voidWord (valueOf b))
 void-color b = one ℕ (voidWord (valueOf b))
 
+pub void-answer : (b : Block) → Tight ℕ (λ r. r ≡ voidAnswer (valueOf b))
+void-answer b = one ℕ (voidAnswer (valueOf b))
+
 pub block-map : (s : List ℕ) (f : Footprint) → Tight BlockMap (λ r. r ≡ blockMap s f)
 block-map s f = one BlockMap (blockMap s f)
 
@@ -300,11 +304,9 @@ decode-ordinary b f h = both ℕ (List ℕ) (answer (fieldsOf (valueOf b)) f) (l
 pub make-tables : Tight Tables (λ r. r ≡ theTables)
 make-tables = one Tables theTables
 
-pub void-outcome : (s : List ℕ) → Tight Outcome (λ r. r ≡ voidOutcome s)
-void-outcome s = one Outcome (voidOutcome s)
-
-pub decode-lanes : (s : List ℕ) (f : Footprint) (h : List ℕ) → TightBoth Outcome (List ℕ) (λ r lanes. (r ≡ outcomeOf s f) × (lanes ≡ lanesIn s f h))
-decode-lanes s f h = both Outcome (List ℕ) (outcomeOf s f) (lanesIn s f h)
+pub decode-lanes : (b : Block) (f : Footprint) (h : List ℕ)
+    → TightBoth Outcome (List ℕ) (λ r lanes. (r ≡ outcomeOf (valueOf b) f) × (lanes ≡ lanesOf (valueOf b) f h))
+decode-lanes b f h = both Outcome (List ℕ) (outcomeOf (valueOf b) f) (lanesOf (valueOf b) f h)
 
 pub decode-astc-block : (s : List ℕ) (f : Footprint) (o : List ℕ) → TightBoth ℕ (List ℕ) (λ a out. (a ≡ answerOf s f (length o)) × (out ≡ paintedOf s f o))
 decode-astc-block s f o = both ℕ (List ℕ) (answerOf s f (length o)) (paintedOf s f o)

@@ -1,8 +1,7 @@
 -- `image_blocks::paint_blocks` meets its contract by its loop: the blocks before the spot are painted, and those that are bad counted.
 -- Assumes nothing.
 use lib.ListN.{length}
-use Rattle.block_ordinary.specs.Facts.{Lent}
-use Rattle.block.specs.OutcomeLaws.{lent}
+use Rattle.block_tables.specs.Tables.{lent}
 use Rattle.image_shape.specs.Shapes.{totalOf}
 use Rattle.image_shape.specs.ShapeLaws.{sized-bounded, same-sized}
 use Rattle.image_window.specs.Places.{some}

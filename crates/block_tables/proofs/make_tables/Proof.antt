@@ -1,7 +1,7 @@
--- `block::make_tables`: each table is the defined one. Assumes nothing.
+-- `block_tables::make_tables`: each table is the defined one. Assumes nothing.
 use borrow.Author.Needs.{needs}
-use Rattle.block.proofs.make_tables.Statement.{statement}
-use Rattle.block.proofs.make_tables.Tie as tie
+use Rattle.block_tables.proofs.make_tables.Statement.{statement}
+use Rattle.block_tables.proofs.make_tables.Tie as tie
 
 reversal-requires : tie.Need-reversal-requires
 reversal-requires c κs = search needs

@@ -1,7 +1,7 @@
 -- Two words of eight bytes are the sum of sixteen.
-use Rattle.bits_load.specs.LoadLaws.{byte-in, bytes-words}
-use Rattle.bits_load.proofs.load.Statement.{statement}
-use Rattle.bits_load.proofs.load.Tie as tie
+use Rattle.block_load.specs.LoadLaws.{byte-in, bytes-words}
+use Rattle.block_load.proofs.load.Statement.{statement}
+use Rattle.block_load.proofs.load.Tie as tie
 
 shared-slice-read-word : tie.Need-shared-slice-read-word
 shared-slice-read-word c = byte-in _ _ (c .before .before .pre) tt
