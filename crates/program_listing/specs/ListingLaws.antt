@@ -1,18 +1,16 @@
--- The ways out of a record's answer and of its line.
+-- The ways out of a record's answer.
 -- Assumes nothing.
-use mathlib.Core.Path.{_≡_, sym, _∙_}
-use mathlib.Core.List.{List, [], _∷_, _++_, append-nil}
-use Prim.Native.Nat.{ℕ, _-_, _≤_, _<_}
+use mathlib.Core.Path.{_≡_, _∙_}
+use mathlib.Core.List.{List}
+use Prim.Native.Nat.{ℕ, _-_}
 use native.Mathlib.Omega.{arith}
-use lib.ListN.{length, getD, drop, take, replicate, length-drop}
+use lib.ListN.{length, getD, drop, take, length-drop}
 use lib.Seq.{take-all}
-use borrow.Author.Tests.{lt-ltb, le-ltb}
-use Rattle.footprint.specs.Footprints.{footprint, mostTexels}
+use Rattle.footprint.specs.Footprints.{footprint}
 use Rattle.block_map.specs.Answer.{answerOf}
 use Rattle.block.specs.Block.{paintedOf}
 use Rattle.block.specs.Entry.{not-sixteen}
-use Rattle.program_text.specs.Text.{decimal}
-use Rattle.program_listing.specs.Listing.{answerIn, wordsIn, fieldOf, colourOf, lineOf}
+use Rattle.program_listing.specs.Listing.{answerIn, wordsIn}
 
 -- a record of another length has no block of sixteen bytes
 pub short : (r words : List ℕ) → (length r ≡ 18 → ⊥) → (20 ≡ answerIn r (length words)) × (words ≡ wordsIn r words)
@@ -24,13 +22,3 @@ pub whole : (r words words′ : List ℕ) (bw bh a : ℕ) → bw ≡ getD r 0 0 
 whole r words words′ bw bh a w h e p =
     let t : take (length r - 2) (drop 2 r) ≡ drop 2 r = take-all (length r - 2) (drop 2 r) (omega (arith, length-drop 2 r)) in
     (e ∙ rw (t, w, h), p ∙ rw (t, w, h))
-
--- the line of a record that was painted, and of one that was not
-pub line-painted : (number : ℕ) (r : List ℕ) (answer word : ℕ) → answer ≡ answerIn r mostTexels → word ≡ getD (wordsIn r (replicate mostTexels 0)) 0 0 → answer < 20
-    → decimal number ++ fieldOf answer ++ colourOf word ++ (10 ∷ []) ≡ lineOf number r
-unfolding lineOf
-line-painted number r answer word a w h = rw (sym a, sym w, lt-ltb answer 20 h)
-
-pub line-refused : (number : ℕ) (r : List ℕ) (answer : ℕ) → answer ≡ answerIn r mostTexels → 20 ≤ answer → decimal number ++ fieldOf answer ++ (10 ∷ []) ≡ lineOf number r
-unfolding lineOf
-line-refused number r answer a h = rw (sym a, le-ltb answer 20 h, append-nil (decimal number ++ fieldOf answer))

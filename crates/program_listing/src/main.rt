@@ -6,10 +6,10 @@ use libc::STDERR_FILENO;
 use libc::STDIN_FILENO;
 use libc::STDOUT_FILENO;
 ghost use mathlib.Core.Path.{_≡_};
-ghost use Prim.Native.Nat.{_+_, _≤_};
+ghost use Prim.Native.Nat.{_≤_};
 ghost use lib.ListN.{length};
 ghost use Rattle.program_text.specs.Text.{Placed};
-ghost use Rattle.program_listing.specs.Listing.{fieldOf, colourOf, answerIn, wordsIn, lineOf};
+ghost use Rattle.program_listing.specs.Listing.{answerIn, wordsIn, recordLine};
 
 fn wide(x: u8) -> usize
     ensures { λ r. ⌜ r ≡ x ⌝ }
@@ -31,40 +31,14 @@ fn answer_of(bytes: &[u8], words: &mut [u32]) -> usize
     block::decode_astc_block(&bytes[2..], f, words)
 }
 
-// Puts a space and a number into the line.
-fn put_field(line: &mut [u8], at: usize, n: u64) -> usize
-    requires { ⌜ at + 21 ≤ length (now line) ⌝ }
-    ensures { λ r. ⌜ Placed (now (line .entry)) at (fieldOf n) (now (line .exit)) r × (r ≤ at + 21) ⌝ }
-{
-    let after = program_text::put_text(line, at, b" ");
-    program_text::put_number(line, after, n)
-}
-
-// Puts a word's red, green, blue and alpha into the line.
-fn put_colour(line: &mut [u8], at: usize, word: u32) -> usize
-    requires { ⌜ at + 84 ≤ length (now line) ⌝ }
-    ensures { λ r. ⌜ Placed (now (line .entry)) at (colourOf word) (now (line .exit)) r × (r ≤ at + 84) ⌝ }
-{
-    let red = put_field(line, at, (word / 0x1_0000 % 256) as u64);
-    let green = put_field(line, red, (word / 256 % 256) as u64);
-    let blue = put_field(line, green, (word % 256) as u64);
-    put_field(line, blue, (word / 0x100_0000) as u64)
-}
-
 // Lays out the line of a record and gives its length.
-fn lay_out(line: &mut [u8], number: u64, bytes: &[u8]) -> usize
+fn lay_out_record(line: &mut [u8], number: u64, bytes: &[u8]) -> usize
     requires { ⌜ 126 ≤ length (now line) ⌝ }
-    ensures { λ r. ⌜ Placed (now (line .entry)) 0 (lineOf number (now (bytes .entry))) (now (line .exit)) r × (r ≤ 126) ⌝ }
+    ensures { λ r. ⌜ Placed (now (line .entry)) 0 (recordLine number (now (bytes .entry))) (now (line .exit)) r × (r ≤ 126) ⌝ }
 {
     let mut words = [0u32; TEXELS];
     let answer = answer_of(bytes, &mut words);
-    let start = program_text::put_number(line, 0, number);
-    let after = put_field(line, start, answer as u64);
-    if answer < answers::BLOCK_LENGTH {
-        let end = put_colour(line, after, words[0]);
-        return program_text::put_text(line, end, b"\n");
-    }
-    program_text::put_text(line, after, b"\n")
+    program_line::lay_out(line, number, answer, words[0])
 }
 
 // Says on the error output that the input cannot be read, where it ended for that: a further read tells.
@@ -93,7 +67,7 @@ fn list(number: u64) -> bool {
         return false;
     }
     let mut line = [0u8; 126];
-    let end = lay_out(&mut line, number, &record[..got]);
+    let end = lay_out_record(&mut line, number, &record[..got]);
     let is_written = write_line(&line[..end]);
     if got < 18 {
         report_end();

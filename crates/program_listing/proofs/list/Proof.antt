@@ -17,24 +17,24 @@ report-end-requires c κs = search needs
 returns : tie.Need-returns
 returns c = search needs
 
-slice-aggregate-lay-out : tie.Need-slice-aggregate-lay-out
-slice-aggregate-lay-out c = search needs
+slice-aggregate-lay-out-record : tie.Need-slice-aggregate-lay-out-record
+slice-aggregate-lay-out-record c = search needs
 
 array-share-prefix-record : tie.Need-array-share-prefix-record
 array-share-prefix-record c = search needs
 
-slice-aggregate-lay-out-2 : tie.Need-slice-aggregate-lay-out-2
-slice-aggregate-lay-out-2 c = search needs
+slice-aggregate-lay-out-record-2 : tie.Need-slice-aggregate-lay-out-record-2
+slice-aggregate-lay-out-record-2 c = search needs
 
-lay-out-requires : tie.Need-lay-out-requires
-lay-out-requires c κs = search needs
+lay-out-record-requires : tie.Need-lay-out-record-requires
+lay-out-record-requires c κs = search needs
 
 array-share-prefix-line : tie.Need-array-share-prefix-line
 array-share-prefix-line c = search needs
 
 slice-aggregate-write-line : tie.Need-slice-aggregate-write-line
 slice-aggregate-write-line c =
-    let l = c .before .before .lay-out in
+    let l = c .before .before .lay-out-record in
     sym (length-take-le (l .result) (l .last .0) (search needs))
 
 write-line-requires : tie.Need-write-line-requires
@@ -57,10 +57,10 @@ list-spec =
     read-full-requires
     report-end-requires
     returns
-    slice-aggregate-lay-out
+    slice-aggregate-lay-out-record
     array-share-prefix-record
-    slice-aggregate-lay-out-2
-    lay-out-requires
+    slice-aggregate-lay-out-record-2
+    lay-out-record-requires
     array-share-prefix-line
     slice-aggregate-write-line
     write-line-requires

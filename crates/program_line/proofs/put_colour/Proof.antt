@@ -2,8 +2,8 @@
 use Rattle.program_text.specs.TextLaws.{placed-next}
 use native.Mathlib.Omega.{arith}
 use borrow.Author.Needs.{needs}
-use Rattle.program_listing.proofs.put_colour.Statement.{statement}
-use Rattle.program_listing.proofs.put_colour.Tie as tie
+use Rattle.program_line.proofs.put_colour.Statement.{statement}
+use Rattle.program_line.proofs.put_colour.Tie as tie
 
 cast-put-field : tie.Need-cast-put-field
 cast-put-field c = search needs

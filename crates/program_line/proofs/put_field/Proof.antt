@@ -2,8 +2,8 @@
 use Rattle.program_text.specs.TextLaws.{placed-next}
 use native.Mathlib.Omega.{arith}
 use borrow.Author.Needs.{needs}
-use Rattle.program_listing.proofs.put_field.Statement.{statement}
-use Rattle.program_listing.proofs.put_field.Tie as tie
+use Rattle.program_line.proofs.put_field.Statement.{statement}
+use Rattle.program_line.proofs.put_field.Tie as tie
 
 slice-aggregate-put-text : tie.Need-slice-aggregate-put-text
 slice-aggregate-put-text c = search needs
