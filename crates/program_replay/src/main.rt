@@ -5,11 +5,12 @@ use footprint::Footprint;
 use footprint::TEXELS;
 use libc::STDIN_FILENO;
 use program_compare::MARKER;
+use program_stored::Tally;
 ghost use mathlib.Core.Path.{_≡_};
 ghost use Prim.Native.Nat.{_≤_, _<_};
 ghost use lib.ListN.{length};
-ghost use Rattle.footprint.specs.Footprints.{mostTexels};
-ghost use Rattle.program_replay.specs.Replay.{wordAt, storedWords, texelsOf, differsFrom, closedAt, countedIn, recordIn, answerIn};
+ghost use Rattle.program_stored.specs.Stored.{answerIn};
+ghost use Rattle.program_replay.specs.Replay.{footprintIn, replayedIn};
 
 fn wide(x: u8) -> usize
     ensures { λ r. ⌜ (r ≡ x) × (r < 256) ⌝ }
@@ -17,59 +18,14 @@ fn wide(x: u8) -> usize
     x as usize
 }
 
-fn long(x: u8) -> u32
-    ensures { λ r. ⌜ (r ≡ x) × (r < 256) ⌝ }
+// The footprint of a record.
+fn footprint_of(head: &[u8; 19]) -> Footprint
+    ensures { λ r. ⌜ (r ≡ footprintIn (now (head .entry))) × ((r .width < 256) × (r .height < 256)) ⌝ }
 {
-    x as u32
-}
-
-// The stored word of texel k.
-fn word_at(stored: &[u8; 576], k: usize) -> u32
-    requires { ⌜ k < mostTexels ⌝ }
-    ensures { λ r. ⌜ r ≡ wordAt (now (stored .entry)) k ⌝ }
-{
-    long(stored[4 * k])
-        + 256 * long(stored[4 * k + 1])
-        + 0x1_0000 * long(stored[4 * k + 2])
-        + 0x100_0000 * long(stored[4 * k + 3])
-}
-
-// The words that are stored, 0 after the last.
-fn stored_words(stored: &[u8; 576]) -> [u32; TEXELS]
-    ensures { λ r. ⌜ r ≡ storedWords (now (stored .entry)) ⌝ }
-{
-    let mut words = [0u32; TEXELS];
-    let mut k = 0;
-    while k < TEXELS {
-        words[k] = word_at(stored, k);
-        k += 1;
-    }
-    words
-}
-
-// The texels of a record's footprint.
-fn texels(head: &[u8; 19]) -> usize
-    ensures { λ r. ⌜ r ≡ texelsOf (now (head .entry)) ⌝ }
-{
-    wide(head[0]) * wide(head[1])
-}
-
-// Whether a record's block has another answer than is stored, or other words in any place.
-fn differs(head: &[u8; 19], stored: &[u8; 576]) -> bool
-    ensures { λ r. ⌜ r ≡ differsFrom (now (head .entry)) (now (stored .entry)) ⌝ }
-{
-    let mut words = [MARKER; TEXELS];
-    let f = Footprint {
+    Footprint {
         width: wide(head[0]),
         height: wide(head[1]),
-    };
-    let h = &head[..];
-    let answer = block::decode_astc_block(&h[3..19], f, &mut words);
-    if answer != wide(head[2]) {
-        return true;
     }
-    let whole = stored_words(stored);
-    program_compare::count_differences(&words, &whole, texels(head)) > 0
 }
 
 // How the reading of a record went.
@@ -103,51 +59,19 @@ fn read_record(head: &mut [u8; 19], stored: &mut [u8]) -> Record
     if got < 19 {
         return Record::Malformed;
     }
-    read_words(stored, texels(head))
+    let f = footprint_of(head);
+    read_words(stored, f.width * f.height)
 }
 
-// What the records so far came to, and whether another may follow.
-pub struct Tally {
-    pub running: bool,
-    pub blocks: usize,
-    pub words: usize,
-    pub different: usize,
-    pub malformed: usize,
-}
-
-// The tally at the list's end, or at a malformed record.
-fn closed(t: Tally, malformed: bool) -> Tally
-    ensures { λ r. ⌜ r ≡ closedAt t malformed ⌝ }
+// Decodes the block of a whole record anew and counts the record, and its stored answer among the answers.
+fn replay_record(t: Tally, answers: &mut [usize; 256], head: &[u8; 19], stored: &[u8; 576]) -> Tally
+    ensures { λ r. ⌜ (r ≡ replayedIn t (now (head .entry)) (now (stored .entry))) × (now (answers .exit) ≡ answerIn (now (answers .entry)) (now (head .entry))) ⌝ }
 {
-    Tally {
-        running: false,
-        blocks: t.blocks,
-        words: t.words,
-        different: t.different,
-        malformed: program_text::added(t.malformed, program_text::one_if(malformed)),
-    }
-}
-
-// The tally with a record of so many words.
-fn counted(t: Tally, words: usize, different: bool) -> Tally
-    ensures { λ r. ⌜ r ≡ countedIn t words different ⌝ }
-{
-    Tally {
-        running: true,
-        blocks: program_text::added(t.blocks, 1),
-        words: program_text::added(t.words, words),
-        different: program_text::added(t.different, program_text::one_if(different)),
-        malformed: t.malformed,
-    }
-}
-
-// Counts a whole record, and its stored answer among the answers.
-fn count_record(t: Tally, answers: &mut [usize; 256], head: &[u8; 19], stored: &[u8; 576]) -> Tally
-    ensures { λ r. ⌜ (r ≡ recordIn t (now (head .entry)) (now (stored .entry))) × (now (answers .exit) ≡ answerIn (now (answers .entry)) (now (head .entry))) ⌝ }
-{
-    let answer = wide(head[2]);
-    answers[answer] = program_text::added(answers[answer], 1);
-    counted(t, texels(head), differs(head, stored))
+    let mut words = [MARKER; TEXELS];
+    let f = footprint_of(head);
+    let h = &head[..];
+    let answer = block::decode_astc_block(&h[3..19], f, &mut words);
+    program_stored::count_record(t, answers, head, stored, answer, &words)
 }
 
 // Reads a record and counts it.
@@ -156,9 +80,9 @@ fn replay(t: Tally, answers: &mut [usize; 256]) -> Tally {
     let mut stored = [0u8; 576];
     let read = read_record(&mut head, &mut stored);
     match read {
-        Record::Missing => closed(t, false),
-        Record::Malformed => closed(t, true),
-        Record::Whole => count_record(t, answers, &head, &stored),
+        Record::Missing => program_stored::closed(t, false),
+        Record::Malformed => program_stored::closed(t, true),
+        Record::Whole => replay_record(t, answers, &head, &stored),
     }
 }
 

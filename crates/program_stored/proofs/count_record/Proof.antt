@@ -1,8 +1,8 @@
 -- The counts are the definition's, of the record's own values.
 use mathlib.Core.Path.{_∙_}
 use borrow.Author.Needs.{needs}
-use Rattle.program_replay.proofs.count_record.Statement.{statement}
-use Rattle.program_replay.proofs.count_record.Tie as tie
+use Rattle.program_stored.proofs.count_record.Statement.{statement}
+use Rattle.program_stored.proofs.count_record.Tie as tie
 
 element-copy-out-wide : tie.Need-element-copy-out-wide
 element-copy-out-wide c = search needs

@@ -1,8 +1,8 @@
 -- The counts are the definition's.
-use Rattle.program_replay.specs.Replay.{countedIn}
+use Rattle.program_stored.specs.Stored.{countedIn}
 use borrow.Author.Needs.{needs}
-use Rattle.program_replay.proofs.counted.Statement.{statement}
-use Rattle.program_replay.proofs.counted.Tie as tie
+use Rattle.program_stored.proofs.counted.Statement.{statement}
+use Rattle.program_stored.proofs.counted.Tie as tie
 
 added-requires : tie.Need-added-requires
 added-requires c κs = search needs

@@ -6,9 +6,9 @@ use native.Mathlib.Omega.{arith}
 use borrow.Author.Needs.{needs}
 use Rattle.laws.specs.Lists.{put, put-none, put-turn, put-end}
 use Rattle.footprint.specs.Footprints.{mostTexels}
-use Rattle.program_replay.specs.Replay.{wordAt, storedWords}
-use Rattle.program_replay.proofs.stored_words.Statement.{statement}
-use Rattle.program_replay.proofs.stored_words.Tie as tie
+use Rattle.program_stored.specs.Stored.{wordAt, storedWords}
+use Rattle.program_stored.proofs.stored_words.Statement.{statement}
+use Rattle.program_stored.proofs.stored_words.Tie as tie
 
 abbrev Inv-loop : tie.InvT-loop
 Inv-loop stored words₀ k₀ words k = (k ≤ mostTexels) × (words ≡ put (wordAt stored) 0 k (replicate mostTexels 0))

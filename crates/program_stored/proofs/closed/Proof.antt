@@ -1,8 +1,8 @@
 -- The count is the definition's.
-use Rattle.program_replay.specs.Replay.{closedAt}
+use Rattle.program_stored.specs.Stored.{closedAt}
 use borrow.Author.Needs.{needs}
-use Rattle.program_replay.proofs.closed.Statement.{statement}
-use Rattle.program_replay.proofs.closed.Tie as tie
+use Rattle.program_stored.proofs.closed.Statement.{statement}
+use Rattle.program_stored.proofs.closed.Tie as tie
 
 one-if-requires : tie.Need-one-if-requires
 one-if-requires c κs = search needs

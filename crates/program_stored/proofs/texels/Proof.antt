@@ -2,8 +2,8 @@
 use native.Mathlib.Nat.{mul-le-mul, le-of-lt}
 use native.Mathlib.Omega.{arith}
 use borrow.Author.Needs.{needs}
-use Rattle.program_replay.proofs.texels.Statement.{statement}
-use Rattle.program_replay.proofs.texels.Tie as tie
+use Rattle.program_stored.proofs.texels.Statement.{statement}
+use Rattle.program_stored.proofs.texels.Tie as tie
 
 element-copy-out-wide : tie.Need-element-copy-out-wide
 element-copy-out-wide c = search needs

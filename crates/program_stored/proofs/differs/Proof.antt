@@ -1,0 +1,49 @@
+-- Another answer is one way out, and the words of the same answer are the other: a law for each.
+use Rattle.program_stored.specs.StoredLaws.{other-answer, same-answer}
+use borrow.Author.Needs.{needs}
+use Rattle.program_stored.proofs.differs.Statement.{statement}
+use Rattle.program_stored.proofs.differs.Tie as tie
+
+element-copy-out-wide : tie.Need-element-copy-out-wide
+element-copy-out-wide c = search needs
+
+wide-requires : tie.Need-wide-requires
+wide-requires c κs = search needs
+
+returns : tie.Need-returns
+returns c =
+    let s = c .before .before .before .args in
+    other-answer (s .head .now) (s .stored .now) (s .answer) (c .before .wide .result) (s .words .now) (search needs) (c .if1 .taken)
+
+stored-words-requires : tie.Need-stored-words-requires
+stored-words-requires c κs = search needs
+
+slice-aggregate-count-differences : tie.Need-slice-aggregate-count-differences
+slice-aggregate-count-differences c = search needs
+
+texels-requires : tie.Need-texels-requires
+texels-requires c κs = search needs
+
+count-differences-requires : tie.Need-count-differences-requires
+count-differences-requires c κs = search needs
+
+returns-2 : tie.Need-returns-2
+returns-2 c =
+    let whole = c .before .before .before .before in
+    let tested = whole .before in
+    let s = tested .before .before .before .args in
+    same-answer (s .head .now) (s .stored .now) (s .answer) (tested .before .wide .result) (s .words .now) (search needs) _ _ _ (tested .if1 .left) (search needs)
+    (whole .stored-words .ensures) (c .before .texels .ensures) (c .count-differences .ensures)
+
+pub differs-spec : {M : Type 1} → statement M
+differs-spec =
+    tie.close
+    (tie.spec
+    element-copy-out-wide
+    wide-requires
+    returns
+    stored-words-requires
+    slice-aggregate-count-differences
+    texels-requires
+    count-differences-requires
+    returns-2)
