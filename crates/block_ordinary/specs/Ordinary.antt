@@ -8,7 +8,7 @@ use lib.Dec.{eqb}
 use lib.ListN.{replicate}
 use Rattle.laws.specs.Lists.{put}
 use Rattle.sequence_ranges.specs.Ranges.{rangeOf}
-use Rattle.sequence_values.specs.Sequence.{valuesOf}
+use Rattle.sequence_groups.specs.Sequence.{valuesOf}
 use Rattle.footprint.specs.Footprints.{texelsOf, mostTexels}
 use Rattle.footprint.specs.declared.Footprint.{Footprint}
 use Rattle.lanes.specs.Lanes.{laneAt, eights}

@@ -15,8 +15,8 @@ use Rattle.bits.specs.Bits.{bitsAt, reversed}
 use Rattle.sequence_ranges.specs.Ranges.{rangeOf, levels, most, totalOf}
 use Rattle.sequence_ranges.specs.RangeLaws.{legal}
 use Rattle.sequence_ranges.specs.declared.Range.{Range}
-use Rattle.sequence_values.specs.Sequence.{valuesOf}
-use Rattle.sequence_values.specs.SequenceLaws.{values-lt, values-past}
+use Rattle.sequence_groups.specs.Sequence.{valuesOf}
+use Rattle.sequence_groups.specs.SequenceLaws.{values-lt, values-past}
 use Rattle.footprint.specs.Footprints.{texelsOf, mostTexels, mostWeights}
 use Rattle.footprint.specs.declared.Footprint.{Footprint}
 use Rattle.lanes.specs.Lanes.{laneAt, eights}

@@ -8,8 +8,8 @@ use lib.ListN.{getD}
 use Rattle.footprint.specs.Sides.{Sides}
 use Rattle.sequence_ranges.specs.Ranges.{rangeOf, levels}
 use Rattle.sequence_ranges.specs.declared.Range.{Range}
-use Rattle.sequence_values.specs.Sequence.{valuesOf}
-use Rattle.sequence_values.specs.SequenceLaws.{values-lt, values-past}
+use Rattle.sequence_groups.specs.Sequence.{valuesOf}
+use Rattle.sequence_groups.specs.SequenceLaws.{values-lt, values-past}
 use Rattle.weights_grid.specs.declared.Grid.{Grid}
 
 pub record Encoded (q n : ℕ) (seq : List ℕ) : Type 0 where

@@ -7,7 +7,7 @@ ghost use Rattle.bits_reversal.specs.Reversals.{reversals};
 ghost use Rattle.bits.specs.Blocks.{valueOf};
 ghost use Rattle.sequence_ranges.specs.Ranges.{most, totalOf};
 ghost use Rattle.sequence_ranges.specs.Digits.{tritTable, quintTable};
-ghost use Rattle.sequence_values.specs.Sequence.{valuesOf};
+ghost use Rattle.sequence_groups.specs.Sequence.{valuesOf};
 use bits::Block;
 use sequence_ranges::Range;
 

@@ -20,7 +20,7 @@ use Rattle.bits_reversal.specs.Reversals.{reversals}
 use Rattle.sequence_ranges.specs.Digits.{tritTable, quintTable}
 use Rattle.sequence_ranges.specs.Ranges.{rangeOf, totalOf}
 use Rattle.sequence_ranges.specs.declared.Range.{Range}
-use Rattle.sequence_values.specs.Sequence.{valuesOf}
+use Rattle.sequence_groups.specs.Sequence.{valuesOf}
 use Rattle.half.specs.Half.{half, productOf, hdrByteOf, voidByteOf}
 use Rattle.params_low.specs.Low.{isVoid, lowOf}
 use Rattle.params_modes.specs.Modes.{modesOf, valuesTo}

@@ -9,7 +9,7 @@ use Rattle.bits.specs.Bits.{bitsAt, bytes, reversed}
 use Rattle.footprint.specs.Footprints.{footprint, oneOf2, listed}
 use Rattle.sequence_ranges.specs.Ranges.{ranges, rangeOf, tops, topOf, totalOf}
 use Rattle.sequence_ranges.specs.Patterns.{copies, repeated, spelt}
-use Rattle.sequence_values.specs.Sequence.{sizeOf, digitsOf, valueIn, groupOf, valueAt, valuesOf}
+use Rattle.sequence_groups.specs.Sequence.{sizeOf, digitsOf, valueIn, groupOf, valueAt, valuesOf}
 use Rattle.half.specs.Half.{voidByte}
 use Rattle.params_low.specs.Low.{isVoid, confLen, lowOf, extentOf}
 use Rattle.params_modes.specs.Modes.{classIn, modeIn, valuesTo}

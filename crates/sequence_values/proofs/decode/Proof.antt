@@ -2,7 +2,7 @@
 use mathlib.Core.Path.{sym, ap, _∙_}
 use Rattle.bits.specs.Blocks.{valueOf}
 use Rattle.sequence_ranges.specs.Ranges.{range}
-use Rattle.sequence_values.specs.Sequence.{valuesOf}
+use Rattle.sequence_groups.specs.Sequence.{valuesOf}
 use Rattle.sequence_ranges.specs.declared.Kind.{Kind}
 use borrow.Author.Needs.{needs}
 use Rattle.sequence_values.proofs.decode.Statement.{statement}

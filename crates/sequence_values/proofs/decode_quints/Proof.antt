@@ -1,71 +1,56 @@
--- The values before i are in their places, and s is what is left of w from group i / 3 on; past n they are cleared.
-use mathlib.Core.Path.{_≡_, refl, _∙_}
-use Prim.Native.Nat.{_+_, _*_, _-_, _/_, _%_, _^_, _≤_}
-use native.Mathlib.Omega.{arith}
-use lib.ListN.{replicate}
-use Rattle.laws.specs.Lists.{put, put-none}
+-- At each turn the values before i are in their places, and s is what is left of w from their next group on; past n they are cleared.
+use Prim.Native.Nat.{_+_, _*_, _-_}
+use native.Mathlib.Nat.{add-comm}
 use Rattle.bits.specs.Blocks.{valueOf}
 use Rattle.sequence_ranges.specs.Ranges.{range}
-use Rattle.sequence_values.specs.Sequence.{sizeOf, valueAt}
-use Rattle.sequence_values.specs.GroupLaws.{rest-first, rest-next, turn, ended}
+use Rattle.sequence_groups.specs.Sequence.{sizeOf}
+use Rattle.sequence_groups.specs.TurnLaws.{starts, next-fits, nearer, more, size-lt, bits-fit, size-fits, Turned, turned-first, turned-next, turned-last}
 use Rattle.sequence_ranges.specs.declared.Kind.the-variants.{Quints}
-use borrow.Author.Needs.{needs}
 use Rattle.sequence_values.proofs.decode_quints.Statement.{statement}
 use Rattle.sequence_values.proofs.decode_quints.Tie as tie
 
 abbrev Inv-loop : tie.InvT-loop
-Inv-loop out₀ t b n s₀ i₀ out s i =
-    (i ≤ n + 2)
-    × (i % 3 ≡ 0)
-    × (valueOf s ≡ valueOf s₀ / 2 ^ (i / 3 * sizeOf (range Quints b)))
-    × (out ≡ put (valueAt (range Quints b) (valueOf s₀)) 0 i (replicate 72 0))
+Inv-loop out₀ t b n s₀ i₀ out s i = Turned (range Quints b) (valueOf s₀) n i (valueOf s) out
 
 abbrev μ-loop : tie.MeasureT-loop
 μ-loop out₀ t b n s₀ i₀ out s i = n - i
 
 loop-holds : tie.Need-loop-holds Inv-loop μ-loop
-loop-holds c = let r = range Quints (c .args .b) in
-    (omega arith, refl, rest-first (valueOf (c .args .w)) (sizeOf r), c .pre .0 ∙ put-none (valueAt r (valueOf (c .args .w))) 0 (replicate 72 0))
+loop-holds c = turned-first (range Quints (c .args .b)) (valueOf (c .args .w)) (c .args .n) (c .args .out .now) (c .pre .0)
 
 put-quints-requires : tie.Need-put-quints-requires Inv-loop μ-loop
-put-quints-requires c κs = search needs
+put-quints-requires c κs = let s = c .before .before .before in (starts _ _ (c .before .loop-test .taken) (s .pre .3), s .pre .1, s .pre .2)
 
 mul-skip : tie.Need-mul-skip Inv-loop μ-loop
-mul-skip c = search needs
+mul-skip c = bits-fit 3 5 8 _ (c .before .before .before .before .pre .2) tt
 
 add-skip : tie.Need-add-skip Inv-loop μ-loop
-add-skip c = search needs
+add-skip c = size-fits 3 5 _ _ (c .before .before .before .before .pre .2) tt
 
 skip-requires : tie.Need-skip-requires Inv-loop μ-loop
-skip-requires c κs = search needs
+skip-requires c κs = (more _ _ tt, size-lt 3 5 _ _ (c .before .before .before .before .pre .2) tt)
 
 add-i : tie.Need-add-i Inv-loop μ-loop
-add-i c = search needs
+add-i c = next-fits _ _ 3 (c .before .before .before .loop-test .taken) (c .before .before .before .before .before .pre .3) tt
 
 loop-less : tie.Need-loop-less Inv-loop μ-loop
-loop-less c = search needs
+loop-less c = nearer _ _ 3 (c .before .before .before .loop-test .taken) tt
 
 loop-again : tie.Need-loop-again Inv-loop μ-loop
 unfolding sizeOf
 loop-again c = let l = c .before .before .before .before .loop in
     let a = c .before .before .before .before .before .args in
-    let r = range Quints (a .b) in
-    let w = valueOf (a .w) in (
-      omega arith,
-      omega arith,
-      rest-next w (l .i / 3) 1 ((l .i + 3) / 3) (sizeOf r) (3 * a .b + 7) (valueOf (l .s)) (valueOf (c .skip .result)) (omega arith) (omega arith)
-          (l .inv .2) (c .skip .ensures),
-      turn r w (l .i / 3) (l .i) (l .s .hi) (l .s .lo) (replicate 72 0) (l .out) (c .before .put-quints .last .0) (omega arith)
-          (l .inv .2) (λ k p q. (omega arith, omega arith)) (l .inv .3) (c .before .put-quints .ensures),
-    )
+    turned-next (range Quints (a .b)) (valueOf (a .w)) (a .n) (l .i) _ (l .s) (c .skip .result) (l .out) (c .before .put-quints .last .0)
+    (c .before .before .before .loop-test .taken) (size-lt 3 5 _ _ (c .before .before .before .before .before .pre .2) tt)
+    (add-comm (3 * a .b) _) (l .inv) (c .before .put-quints .ensures) (c .skip .ensures)
 
 clear-requires : tie.Need-clear-requires Inv-loop μ-loop
-clear-requires c κs = search needs
+clear-requires c κs = c .before .before .before .pre .3
 
 returns : tie.Need-returns Inv-loop μ-loop
 returns c = let l = c .before .before .before .loop in
     let a = c .before .before .before .before .args in
-    ended (range Quints (a .b)) (valueOf (a .w)) (a .n) (l .i) (l .out) (c .clear .last .0) (omega arith) (omega arith) (l .inv .3) (c .clear .ensures)
+    turned-last (range Quints (a .b)) (valueOf (a .w)) (a .n) (l .i) (valueOf (l .s)) (l .out) (c .clear .last .0) (c .before .before .loop-test .left) (l .inv) (c .clear .ensures)
 
 pub decode-quints-spec : {M : Type 1} → statement M
 decode-quints-spec =

@@ -1,7 +1,7 @@
 -- Each arm has the promise of its number of bits.
 use lib.Dec.{lit≤}
 use Rattle.sequence_ranges.specs.declared.Kind.the-variants.{Quints}
-use Rattle.sequence_values.specs.SequenceLaws.{values-arm, values-last}
+use Rattle.sequence_groups.specs.SequenceLaws.{values-arm, values-last}
 use Rattle.sequence_values.proofs.decode_quints_by.Statement.{statement}
 use Rattle.sequence_values.proofs.decode_quints_by.Tie as tie
 

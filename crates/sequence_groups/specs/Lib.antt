@@ -1,0 +1,5 @@
+pub mod Sequence
+pub mod DigitLaws
+pub mod SequenceLaws
+pub mod GroupLaws
+pub mod TurnLaws

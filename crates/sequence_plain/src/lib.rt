@@ -1,0 +1,86 @@
+// The values of an integer sequence of plain bits, which is given as one number, six at a time; and zeros after a sequence.
+ghost use mathlib.Core.Path.{_≡_};
+ghost use Prim.Native.Nat.{ℕ, _+_, _%_, _^_, _≤_};
+ghost use lib.ListN.{replicate};
+ghost use Rattle.laws.specs.Lists.{put};
+ghost use Rattle.bits.specs.Blocks.{valueOf};
+ghost use Rattle.sequence_ranges.specs.Ranges.{range};
+ghost use Rattle.sequence_groups.specs.Sequence.{valuesOf};
+ghost use Rattle.sequence_plain.specs.Plain.{plainFrom};
+use bits::Block;
+use sequence_ranges::Kind;
+
+// The low b bits of d.
+fn low(d: u64, b: usize) -> u8
+    requires { ⌜ b ≤ 8 ⌝ }
+    ensures { λ r. ⌜ r ≡ d % 2 ^ b ⌝ }
+{
+    (d % (1 << b)) as u8
+}
+
+// Six values of b bits.
+fn put_plain(out: &mut [u8; 72], i: usize, b: usize, d: u64)
+    requires { ⌜ (i ≤ 64) × (b ≤ 8) ⌝ }
+    ensures { λ _. ⌜ now (out .exit) ≡ put (plainFrom b d i) i (i + 6) (now (out .entry)) ⌝ }
+{
+    let mut m = d;
+    out[i] = low(m, b);
+    m = m >> b;
+    out[i + 1] = low(m, b);
+    m = m >> b;
+    out[i + 2] = low(m, b);
+    m = m >> b;
+    out[i + 3] = low(m, b);
+    m = m >> b;
+    out[i + 4] = low(m, b);
+    m = m >> b;
+    out[i + 5] = low(m, b);
+}
+
+// Five zeros after n values: a loop over groups may reach so far past them.
+pub fn clear(out: &mut [u8; 72], n: usize)
+    requires { ⌜ n ≤ 64 ⌝ }
+    ensures { λ _. ⌜ now (out .exit) ≡ put (λ (k : ℕ). 0) n (n + 5) (now (out .entry)) ⌝ }
+{
+    out[n] = 0;
+    out[n + 1] = 0;
+    out[n + 2] = 0;
+    out[n + 3] = 0;
+    out[n + 4] = 0;
+}
+
+// The n values of the sequence w, six at a time. Values of no bits are 0, as out is.
+fn decode_plain(out: &mut [u8; 72], w: Block, b: usize, n: usize)
+    requires { ⌜ (now out ≡ replicate 72 0) × (b ≤ 8) × (n ≤ 64) ⌝ }
+    ensures { λ _. ⌜ now (out .exit) ≡ valuesOf (range Kind.Plain b) (valueOf w) n ⌝ }
+{
+    if b == 0 {
+        return;
+    }
+    let mut s = w;
+    let mut i = 0;
+    while i < n {
+        put_plain(out, i, b, s.lo);
+        s = bits::skip(s, 6 * b);
+        i += 6;
+    }
+    clear(out, n);
+}
+
+// The same by a number of bits that each arm knows: its shifts are by constants then, which are fewer instructions.
+pub fn decode_plain_by(out: &mut [u8; 72], w: Block, b: usize, n: usize)
+    requires { ⌜ (now out ≡ replicate 72 0) × (b ≤ 8) × (n ≤ 64) ⌝ }
+    ensures { λ _. ⌜ now (out .exit) ≡ valuesOf (range Kind.Plain b) (valueOf w) n ⌝ }
+{
+    match b {
+        0 => decode_plain(out, w, 0, n),
+        1 => decode_plain(out, w, 1, n),
+        2 => decode_plain(out, w, 2, n),
+        3 => decode_plain(out, w, 3, n),
+        4 => decode_plain(out, w, 4, n),
+        5 => decode_plain(out, w, 5, n),
+        6 => decode_plain(out, w, 6, n),
+        7 => decode_plain(out, w, 7, n),
+        _ => decode_plain(out, w, 8, n),
+    }
+}

@@ -1,4 +1,0 @@
-pub mod Sequence
-pub mod DigitLaws
-pub mod SequenceLaws
-pub mod GroupLaws
