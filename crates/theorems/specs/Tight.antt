@@ -18,9 +18,10 @@ use Rattle.bits.specs.Blocks.{valueOf}
 use Rattle.bits.specs.declared.Block.{Block}
 use Rattle.bits_reversal.specs.Reversals.{reversals}
 use Rattle.sequence_ranges.specs.Digits.{tritTable, quintTable}
-use Rattle.sequence_ranges.specs.Ranges.{rangeOf, totalOf}
+use Rattle.sequence_ranges.specs.Ranges.{range, rangeOf, totalOf}
+use Rattle.sequence_ranges.specs.declared.Kind.the-variants.{Plain, Trits, Quints}
 use Rattle.sequence_ranges.specs.declared.Range.{Range}
-use Rattle.sequence_groups.specs.Sequence.{valuesOf}
+use Rattle.sequence_groups.specs.Sequence.{valuesOf, groupFrom}
 use Rattle.half.specs.Half.{half, productOf, hdrByteOf, voidByteOf}
 use Rattle.params_low.specs.Low.{isVoid, lowOf}
 use Rattle.params_modes.specs.Modes.{modesOf, valuesTo}
@@ -151,6 +152,18 @@ range-of q = one Range (rangeOf q)
 
 pub total : (r : Range) (n : ℕ) → Tight ℕ (λ s. s ≡ totalOf r n)
 total r n = one ℕ (totalOf r n)
+
+pub put-trits : (b d i : ℕ) (o : List ℕ) → Tight (List ℕ) (λ out. out ≡ put (groupFrom (range Trits b) d i) i (i + 5) o)
+put-trits b d i o = one (List ℕ) (put (groupFrom (range Trits b) d i) i (i + 5) o)
+
+pub put-quints : (b d i : ℕ) (o : List ℕ) → Tight (List ℕ) (λ out. out ≡ put (groupFrom (range Quints b) d i) i (i + 3) o)
+put-quints b d i o = one (List ℕ) (put (groupFrom (range Quints b) d i) i (i + 3) o)
+
+pub clear : (n : ℕ) (o : List ℕ) → Tight (List ℕ) (λ out. out ≡ put (λ (k : ℕ). 0) n (n + 5) o)
+clear n o = one (List ℕ) (put (λ (k : ℕ). 0) n (n + 5) o)
+
+pub decode-plain-by : (w : Block) (b n : ℕ) → Tight (List ℕ) (λ out. out ≡ valuesOf (range Plain b) (valueOf w) n)
+decode-plain-by w b n = one (List ℕ) (valuesOf (range Plain b) (valueOf w) n)
 
 pub decode : (w : Block) (r : Range) (n : ℕ) → Tight (List ℕ) (λ out. out ≡ valuesOf r (valueOf w) n)
 decode w r n = one (List ℕ) (valuesOf r (valueOf w) n)
