@@ -1,6 +1,6 @@
-// One group of an integer sequence, five values with their trits or three with their quints, put into an output; and what a sequence of groups is.
+// One group of an integer sequence, five values with their trits or three with their quints, put into an output, and zeros after the last; and what a sequence of groups is.
 ghost use mathlib.Core.Path.{_≡_};
-ghost use Prim.Native.Nat.{_+_, _*_, _%_, _^_, _≤_};
+ghost use Prim.Native.Nat.{ℕ, _+_, _*_, _%_, _^_, _≤_};
 ghost use Rattle.laws.specs.Lists.{put};
 ghost use Rattle.sequence_ranges.specs.Ranges.{range};
 ghost use Rattle.sequence_ranges.specs.Digits.{packed, tritTable, quintTable};
@@ -84,4 +84,16 @@ pub fn put_quints(out: &mut [u8; 72], i: usize, t: &[u16; 128], b: usize, d: u64
     out[i + 1] = value(e / 8, m / 8, b);
     m = m >> b;
     out[i + 2] = value(e / 64, m / 32, b);
+}
+
+// Five zeros after n values: the last group may reach so far past them.
+pub fn clear(out: &mut [u8; 72], n: usize)
+    requires { ⌜ n ≤ 64 ⌝ }
+    ensures { λ _. ⌜ now (out .exit) ≡ put (λ (k : ℕ). 0) n (n + 5) (now (out .entry)) ⌝ }
+{
+    out[n] = 0;
+    out[n + 1] = 0;
+    out[n + 2] = 0;
+    out[n + 3] = 0;
+    out[n + 4] = 0;
 }

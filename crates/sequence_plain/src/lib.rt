@@ -1,6 +1,6 @@
-// The values of an integer sequence of plain bits, which is given as one number, six at a time; and zeros after a sequence.
+// The values of an integer sequence of plain bits, which is given as one number, six at a time.
 ghost use mathlib.Core.Path.{_≡_};
-ghost use Prim.Native.Nat.{ℕ, _+_, _%_, _^_, _≤_};
+ghost use Prim.Native.Nat.{_+_, _%_, _^_, _≤_};
 ghost use lib.ListN.{replicate};
 ghost use Rattle.laws.specs.Lists.{put};
 ghost use Rattle.bits.specs.Blocks.{valueOf};
@@ -37,18 +37,6 @@ fn put_plain(out: &mut [u8; 72], i: usize, b: usize, d: u64)
     out[i + 5] = low(m, b);
 }
 
-// Five zeros after n values: a loop over groups may reach so far past them.
-pub fn clear(out: &mut [u8; 72], n: usize)
-    requires { ⌜ n ≤ 64 ⌝ }
-    ensures { λ _. ⌜ now (out .exit) ≡ put (λ (k : ℕ). 0) n (n + 5) (now (out .entry)) ⌝ }
-{
-    out[n] = 0;
-    out[n + 1] = 0;
-    out[n + 2] = 0;
-    out[n + 3] = 0;
-    out[n + 4] = 0;
-}
-
 // The n values of the sequence w, six at a time. Values of no bits are 0, as out is.
 fn decode_plain(out: &mut [u8; 72], w: Block, b: usize, n: usize)
     requires { ⌜ (now out ≡ replicate 72 0) × (b ≤ 8) × (n ≤ 64) ⌝ }
@@ -64,7 +52,7 @@ fn decode_plain(out: &mut [u8; 72], w: Block, b: usize, n: usize)
         s = bits::skip(s, 6 * b);
         i += 6;
     }
-    clear(out, n);
+    sequence_groups::clear(out, n);
 }
 
 // The same by a number of bits that each arm knows: its shifts are by constants then, which are fewer instructions.

@@ -22,7 +22,7 @@ fn decode_trits(out: &mut [u8; 72], t: &[u16; 256], w: Block, b: usize, n: usize
         s = bits::skip(s, 5 * b + 8);
         i += 5;
     }
-    sequence_plain::clear(out, n);
+    sequence_groups::clear(out, n);
 }
 
 // The n values of the sequence w, three at a time.
@@ -37,7 +37,7 @@ fn decode_quints(out: &mut [u8; 72], t: &[u16; 128], w: Block, b: usize, n: usiz
         s = bits::skip(s, 3 * b + 7);
         i += 3;
     }
-    sequence_plain::clear(out, n);
+    sequence_groups::clear(out, n);
 }
 
 // The values with trits, by a number of bits that each arm knows: its shifts are by constants then, which are fewer instructions.

@@ -4,9 +4,9 @@ use Prim.Native.Nat.{ℕ}
 use Rattle.laws.specs.Lists.{put-first, put-step}
 use native.Mathlib.Nat.{lt-of-le-of-lt}
 use lib.Dec.{lit<}
 use Rattle.sequence_groups.specs.GroupLaws.{near, near-fits}
-use Rattle.sequence_plain.proofs.clear.Statement.{statement}
-use Rattle.sequence_plain.proofs.clear.Tie as tie
+use Rattle.sequence_groups.proofs.clear.Statement.{statement}
+use Rattle.sequence_groups.proofs.clear.Tie as tie
 
 element-write-out : tie.Need-element-write-out
 element-write-out c = lt-of-le-of-lt (c .pre) (lit< tt)
