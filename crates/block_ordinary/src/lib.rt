@@ -5,7 +5,6 @@ ghost use Prim.Native.Nat.{_*_};
 ghost use lib.ListN.{replicate};
 ghost use Rattle.laws.specs.Lists.{put};
 ghost use Rattle.bits.specs.Blocks.{valueOf};
-ghost use Rattle.bits_reversal.specs.Reversals.{reversals};
 ghost use Rattle.sequence_ranges.specs.Digits.{tritTable, quintTable};
 ghost use Rattle.footprint.specs.Footprints.{texelsOf, mostTexels, mostWeights, listed};
 ghost use Rattle.footprint.specs.Sides.{Sides};

@@ -14,7 +14,6 @@ use lib.Seq.{length-take-le}
 use borrow.Author.Tests.{lt-ltb, le-ltb, le-leb, lt-leb}
 use Rattle.answers.specs.Answers.{isBad}
 use Rattle.footprint.specs.Footprints.{texelsOf}
-use Rattle.footprint.specs.Sides.{sides-of}
 use Rattle.lanes.specs.Lanes.{mostLanes, joinedAt}
 use Rattle.block_map.specs.Answer.{mapAnswer}
 use Rattle.block_ordinary.specs.Ordinary.{lanesOf}

@@ -1,7 +1,7 @@
 -- The gathered bits are the group's place in the table, whose entry has its digits.
 use mathlib.Core.Path.{ap, _∙_}
 use Prim.Native.Nat.{ℕ}
-use native.Mathlib.Nat.{lt-of-le-of-lt, lt-of-lt-of-le}
+use native.Mathlib.Nat.{lt-of-le-of-lt}
 use lib.Dec.{lit<, lit≤}
 use lib.ListN.{getD}
 use Rattle.sequence_ranges.specs.Digits.{tritTable}

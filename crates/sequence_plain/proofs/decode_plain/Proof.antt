@@ -1,6 +1,6 @@
 -- At each turn the values before i are in their places, and s is what is left of w from value i on; past n they are cleared.
 use mathlib.Core.Path.{refl, _∙_}
-use Prim.Native.Nat.{_+_, _*_, _-_}
+use Prim.Native.Nat.{_-_}
 use Rattle.bits.specs.Blocks.{valueOf}
 use Rattle.sequence_ranges.specs.Ranges.{range}
 use Rattle.sequence_groups.specs.TurnLaws.{starts, next-fits, nearer, bits-fit, Turned, turned-first, turned-last}

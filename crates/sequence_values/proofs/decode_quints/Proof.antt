@@ -1,5 +1,5 @@
 -- At each turn the values before i are in their places, and s is what is left of w from their next group on; past n they are cleared.
-use Prim.Native.Nat.{_+_, _*_, _-_}
+use Prim.Native.Nat.{_*_, _-_}
 use native.Mathlib.Nat.{add-comm}
 use Rattle.bits.specs.Blocks.{valueOf}
 use Rattle.sequence_ranges.specs.Ranges.{range}
