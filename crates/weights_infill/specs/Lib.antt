@@ -4,4 +4,3 @@ pub mod InfillLaws
 pub mod SpreadLaws
 pub mod FillLaws
 pub mod PlaneLaws
-pub mod LoopLaws

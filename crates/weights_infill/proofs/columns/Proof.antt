@@ -6,7 +6,6 @@ use Rattle.laws.specs.Lists.{put, put-none, put-turn, put-end}
 use Rattle.weights_grid.specs.Grids.{placeOf, placed}
 use Rattle.weights_grid.specs.GridLaws.{sides-in}
 use native.Mathlib.Nat.{mul-le-mul}
-use Rattle.weights_infill.specs.LoopLaws.{next, nearer}
 use Rattle.weights_infill.proofs.columns.Statement.{statement}
 use Rattle.weights_infill.proofs.columns.Tie as tie
 
@@ -57,11 +56,11 @@ add-s : tie.Need-add-s Inv-loop μ-loop
 add-s c = omega (arith, sides-in (c .before .before .before .before .before .before .before .pre))
 
 loop-less : tie.Need-loop-less Inv-loop μ-loop
-loop-less c = nearer _ _ (c .before .loop-test .taken)
+loop-less c = omega arith
 
 loop-again : tie.Need-loop-again Inv-loop μ-loop
 loop-again c = (
-  next _ _ (c .before .loop-test .taken),
+  omega arith,
   put-turn _ _ _ _ _ _ (c .before .before .loop .inv .1) zero-le (ap (λ (p : ℕ). p / 16 * c .before .before .before .before .before .before .before .args .g .planes) (c .place .ensures .0)),
   put-turn _ _ _ _ _ _ (c .before .before .loop .inv .2) zero-le (ap (λ (p : ℕ). p % 16) (c .place .ensures .0)),
 )

@@ -4,7 +4,6 @@ use Prim.Native.Nat.{_-_, _≤_, zero-le}
 use native.Mathlib.Omega.{arith}
 use Rattle.laws.specs.Lists.{putAt, putAt-none, putAt-turn, putAt-end}
 use Rattle.weights_infill.specs.Fast.{rowAt}
-use Rattle.weights_infill.specs.LoopLaws.{next, nearer}
 use Rattle.weights_infill.proofs.fill_row.Statement.{statement}
 use Rattle.weights_infill.proofs.fill_row.Tie as tie
 
@@ -57,11 +56,11 @@ add-s : tie.Need-add-s Inv-loop μ-loop
 add-s c = omega arith
 
 loop-less : tie.Need-loop-less Inv-loop μ-loop
-loop-less c = nearer _ _ (c .before .before .before .before .loop-test .taken)
+loop-less c = omega arith
 
 loop-again : tie.Need-loop-again Inv-loop μ-loop
 unfolding rowAt
-loop-again c = (next _ _ (c .before .before .before .before .loop-test .taken), putAt-turn _ _ _ _ _ _ (c .before .before .before .before .before .loop .inv .1) (c .mixed .ensures))
+loop-again c = (omega arith, putAt-turn _ _ _ _ _ _ (c .before .before .before .before .before .loop .inv .1) (c .mixed .ensures))
 
 returns : tie.Need-returns Inv-loop μ-loop
 returns c = putAt-end _ _ _ _ _ _ (c .before .loop .inv .1) (omega arith) (omega arith)

@@ -9,7 +9,6 @@ use Rattle.weights_infill.specs.Fast.{rowAt, rowsOf}
 use Rattle.weights_infill.specs.FillLaws.{row-past, texelsTo, texels-none, texels-turn, texels-end}
 use Rattle.footprint.specs.Footprints.{mostWeights}
 use Rattle.lanes.specs.Lanes.{eights}
-use Rattle.weights_infill.specs.LoopLaws.{next, nearer}
 use Rattle.weights_infill.proofs.fill_rows.Statement.{statement}
 use Rattle.weights_infill.proofs.fill_rows.Tie as tie
 
@@ -66,7 +65,7 @@ add-t : tie.Need-add-t Inv-loop μ-loop
 add-t c = omega (arith, sides-in (c .before .before .before .before .before .before .before .before .before .before .before .pre .0 .0))
 
 loop-less : tie.Need-loop-less Inv-loop μ-loop
-loop-less c = nearer _ _ (c .before .before .before .before .before .if1 .taken)
+loop-less c = omega arith
 
 loop-again : tie.Need-loop-again Inv-loop μ-loop
 loop-again c =
@@ -75,7 +74,7 @@ loop-again c =
     let p = c .before .before .before .before .place .result in
     let lanes = c .before .before .before .before .before .before .before .before .eights in
     let fits = c .before .before .before .before .before .before .before .before .before .before .before .pre .0 .0 in (
-      next _ _ (c .before .before .before .before .before .if1 .taken),
+      omega arith,
       omega (arith, l .inv .1),
       texels-turn (a .g .footprint .width) (l .t) (lanes .result) (rowsOf (a .g) (a .pairs .now) (a .part .now)) (rowAt (a .pairs .now) (a .part .now) (p / 16 * 16) (p % 16))
           (l .out) _ (l .o) (l .inv .1) (omega (arith, lanes .ensures))

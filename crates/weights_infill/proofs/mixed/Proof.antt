@@ -4,7 +4,6 @@ use native.Mathlib.Omega.{arith}
 use borrow.Author.Needs.{needs}
 use native.Mathlib.Nat.{mul-le-mul}
 use Rattle.weights_infill.specs.InfillLaws.{shares, between-le, between-is}
-use Rattle.weights_infill.specs.LoopLaws.{fits-one, fits-two, fits-three, fits-four, fits-rounded}
 use Rattle.weights_infill.proofs.mixed.Statement.{statement}
 use Rattle.weights_infill.proofs.mixed.Tie as tie
 
@@ -38,28 +37,28 @@ sub-w00-2 : tie.Need-sub-w00-2
 sub-w00-2 c = omega (arith, shares (c .args .f) (c .args .h) (c .pre .0) (c .pre .1))
 
 mul-result : tie.Need-mul-result
-mul-result c = fits-one _ (terms c .0)
+mul-result c = omega (arith, terms c)
 
 mul-result-2 : tie.Need-mul-result-2
-mul-result-2 c = fits-one _ (terms c .1)
+mul-result-2 c = omega (arith, terms c)
 
 add-result : tie.Need-add-result
-add-result c = fits-two _ _ (terms c .0) (terms c .1)
+add-result c = omega (arith, terms c)
 
 mul-result-3 : tie.Need-mul-result-3
-mul-result-3 c = fits-one _ (terms c .2)
+mul-result-3 c = omega (arith, terms c)
 
 add-result-2 : tie.Need-add-result-2
-add-result-2 c = fits-three _ _ _ (terms c .0) (terms c .1) (terms c .2)
+add-result-2 c = omega (arith, terms c)
 
 mul-result-4 : tie.Need-mul-result-4
-mul-result-4 c = fits-one _ (terms c .3)
+mul-result-4 c = omega (arith, terms c)
 
 add-result-3 : tie.Need-add-result-3
-add-result-3 c = fits-four _ _ _ _ (terms c .0) (terms c .1) (terms c .2) (terms c .3)
+add-result-3 c = omega (arith, terms c)
 
 add-result-4 : tie.Need-add-result-4
-add-result-4 c = fits-rounded _ _ _ _ (terms c .0) (terms c .1) (terms c .2) (terms c .3)
+add-result-4 c = omega (arith, terms c)
 
 cast-result : tie.Need-cast-result
 cast-result c =

@@ -5,7 +5,6 @@ use Prim.Native.Nat.{ℕ, _-_, _≤_, zero-le}
 use native.Mathlib.Omega.{arith}
 use lib.ListN.{getD}
 use Rattle.laws.specs.Lists.{putAt, putAt-none, putAt-turn, putAt-end}
-use Rattle.weights_infill.specs.LoopLaws.{next, nearer}
 use Rattle.weights_infill.proofs.put_second.Statement.{statement}
 use Rattle.weights_infill.proofs.put_second.Tie as tie
 
@@ -31,10 +30,10 @@ add-i : tie.Need-add-i Inv-loop μ-loop
 add-i c = omega arith
 
 loop-less : tie.Need-loop-less Inv-loop μ-loop
-loop-less c = nearer _ _ (c .before .loop-test .taken)
+loop-less c = omega arith
 
 loop-again : tie.Need-loop-again Inv-loop μ-loop
-loop-again c = (next _ _ (c .before .loop-test .taken), putAt-turn _ _ _ _ _ _ (c .before .before .loop .inv .1) refl)
+loop-again c = (omega arith, putAt-turn _ _ _ _ _ _ (c .before .before .loop .inv .1) refl)
 
 returns : tie.Need-returns Inv-loop μ-loop
 returns c = putAt-end _ _ _ _ _ _ (c .before .loop .inv .1) (omega arith) (omega arith)

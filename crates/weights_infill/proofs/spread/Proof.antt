@@ -8,7 +8,6 @@ use Rattle.weights_infill.specs.Fast.{spreadAt}
 use Rattle.weights_infill.specs.SpreadLaws.{rowsTo, rows-none, left-in, rows-turn, rows-end}
 use Rattle.footprint.specs.Footprints.{mostWeights}
 use native.Mathlib.Nat.{mul-le-mul}
-use Rattle.weights_infill.specs.LoopLaws.{next, nearer}
 use Rattle.weights_infill.proofs.spread.Statement.{statement}
 use Rattle.weights_infill.proofs.spread.Tie as tie
 
@@ -52,13 +51,13 @@ add-j : tie.Need-add-j Inv-loop μ-loop
 add-j c = omega (arith, c .before .before .before .before .before .before .pre .0 .0 .high, sides-in (c .before .before .before .before .before .before .pre .0 .0))
 
 loop-less : tie.Need-loop-less Inv-loop μ-loop
-loop-less c = nearer _ _ (c .before .before .before .if1 .taken)
+loop-less c = omega arith
 
 loop-again : tie.Need-loop-again Inv-loop μ-loop
 loop-again c =
     let a = c .before .before .before .before .before .before .args in
     let l = c .before .before .before .before .before .loop in (
-      next _ _ (c .before .before .before .if1 .taken),
+      omega arith,
       omega (arith, l .inv .1),
       rows-turn (a .g) (a .next .now) (a .plane) (c .before .before .before .before .before .before .pre .0 .0) (c .before .before .before .before .before .before .pre .0 .1) (a .at .now) (l .out) _ (l .j) (l .k) (c .before .before .before .before .before .before .pre .1 .0) (l .inv .1) (l .inv .2) (c .before .spread-row .ensures),
     )

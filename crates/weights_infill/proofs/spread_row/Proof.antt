@@ -4,7 +4,6 @@ use Prim.Native.Nat.{ℕ, _+_, _-_, _≤_, _<_, zero-le}
 use native.Mathlib.Omega.{arith}
 use lib.ListN.{getD}
 use Rattle.laws.specs.Lists.{putAt, putAt-none, putAt-turn, putAt-end}
-use Rattle.weights_infill.specs.LoopLaws.{next, nearer}
 use Rattle.weights_infill.proofs.spread_row.Statement.{statement}
 use Rattle.weights_infill.proofs.spread_row.Tie as tie
 
@@ -51,11 +50,11 @@ add-s : tie.Need-add-s Inv-loop μ-loop
 add-s c = omega arith
 
 loop-less : tie.Need-loop-less Inv-loop μ-loop
-loop-less c = nearer _ _ (c .before .before .before .loop-test .taken)
+loop-less c = omega arith
 
 loop-again : tie.Need-loop-again Inv-loop μ-loop
 loop-again c = (
-  next _ _ (c .before .before .before .loop-test .taken),
+  omega arith,
   putAt-turn _ _ _ _ _ _ (c .before .before .before .before .loop .inv .1)
       (ap (λ (n : ℕ). getD (c .before .before .before .before .before .args .next .now) (c .before .before .before .before .before .args .k + n) 0) (c .before .long .ensures)),
 )
