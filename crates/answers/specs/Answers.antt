@@ -1,4 +1,4 @@
--- The numbers that calls answer, by document 01's table.
+-- The numbers that calls answer, by document 01's table and the orders.
 -- Assumes nothing.
 use mathlib.Core.Bool.{Bool}
 use Prim.Native.Nat.{ℕ}
@@ -43,11 +43,17 @@ notListed = 21
 abbrev pub outputTooShort : ℕ
 outputTooShort = 22
 
+abbrev pub badOptions : ℕ
+badOptions = 23
+
 abbrev pub imageSide : ℕ
 imageSide = 30
 
 abbrev pub dataLength : ℕ
 dataLength = 31
+
+abbrev pub noPosition : ℕ
+noPosition = 32
 
 abbrev pub noBlocks : ℕ
 noBlocks = 33

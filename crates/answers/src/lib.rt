@@ -29,9 +29,13 @@ pub const FOOTPRINT: usize = 21;
 
 pub const OUTPUT_TOO_SHORT: usize = 22;
 
+pub const OPTIONS: usize = 23;
+
 pub const IMAGE_SIDE: usize = 30;
 
 pub const DATA_LENGTH: usize = 31;
+
+pub const POSITION: usize = 32;
 
 pub const NO_BLOCKS: usize = 33;
 

@@ -11,7 +11,7 @@ use lib.Dec.{eqb, ltb}
 use borrow.Author.Tests.{lt-ltb, le-ltb}
 use Rattle.laws.specs.Numbers.{choice-le}
 use Rattle.half.specs.Half.{sign, field, digits, whole, hdrByte, hdrByteOf}
-use Rattle.blend.specs.Blend.{between, expand, crateByte, ldrChannel, hdrBlend, bent, halfOf, hdrChannel}
+use Rattle.blend.specs.Blend.{between, expand, crateByte, ldrChannel, hdrBlend, bent, halfOf, hdrHalf, hdrChannel}
 
 -- ---- between two numbers
 -- the sum of two numbers by their shares
@@ -216,5 +216,8 @@ pub half-is : (c a b : ℕ) → a ≡ c % 2048 - 512 → b ≡ c % 2048 - 1536 �
 unfolding halfOf
 half-is c a b p q = rw (p, q, bent-sum (c % 2048))
 
-pub hdr-is : (v0 v1 w h r : ℕ) → h ≡ halfOf ((shares v0 v1 w + 2) / 4) → r ≡ hdrByteOf h → r ≡ hdrChannel v0 v1 w
-hdr-is v0 v1 w h r p q = q ∙ rw (p, hdr-closed v0 v1 w)
+pub hdr-half-is : (v0 v1 w h : ℕ) → v0 < 4096 → v1 < 4096 → w ≤ 64 → h ≡ halfOf ((shares v0 v1 w + 2) / 4) → (h ≡ hdrHalf v0 v1 w) × (h < 32768)
+hdr-half-is v0 v1 w h k l m p = (p ∙ rw (hdr-closed v0 v1 w), rw p (half-lt _ (omega (arith, shares-most v0 v1 w m))))
+
+pub hdr-is : (v0 v1 w h r : ℕ) → h ≡ hdrHalf v0 v1 w → r ≡ hdrByteOf h → r ≡ hdrChannel v0 v1 w
+hdr-is v0 v1 w h r p q = q ∙ rw p

@@ -1,7 +1,7 @@
 // Blending: a texel's channel from its endpoints and its weight, and the word of four channels.
 ghost use mathlib.Core.Path.{_≡_};
 ghost use Prim.Native.Nat.{_-_, _≤_, _<_};
-ghost use Rattle.blend.specs.Blend.{expand, halfOf, ldrChannel, hdrChannel, wordOf};
+ghost use Rattle.blend.specs.Blend.{expand, halfOf, ldrChannel, hdrHalf, hdrChannel, wordOf};
 
 fn wide(x: u8) -> u32
     ensures { λ r. ⌜ r ≡ x ⌝ }
@@ -59,10 +59,18 @@ fn hdr_half(c: u32) -> u16
     (c / 2048 * 1024 + (3 * m + above(m, 512) + above(m, 1536)) / 8) as u16
 }
 
+// The half of an HDR channel at a weight, for endpoints of 12 bits.
+pub fn select_half(v0: u32, v1: u32, weight: u32) -> u16
+    requires { ⌜ (v0 < 4096) × ((v1 < 4096) × (weight ≤ 64)) ⌝ }
+    ensures { λ r. ⌜ (r ≡ hdrHalf v0 v1 weight) × (r < 32768) ⌝ }
+{
+    hdr_half((v0 * (64 - weight) + v1 * weight + 2) / 4)
+}
+
 // The HDR channel at a weight, for endpoints of 12 bits.
 pub fn select_color_hdr(v0: u32, v1: u32, weight: u32) -> u8
     requires { ⌜ (v0 < 4096) × ((v1 < 4096) × (weight ≤ 64)) ⌝ }
     ensures { λ r. ⌜ r ≡ hdrChannel v0 v1 weight ⌝ }
 {
-    half::hdr_to_u8(hdr_half((v0 * (64 - weight) + v1 * weight + 2) / 4))
+    half::hdr_to_u8(select_half(v0, v1, weight))
 }

@@ -13,6 +13,7 @@ use Rattle.footprint.specs.Sides.{sides-of}
 use Rattle.footprint.specs.declared.Footprint.{Footprint}
 use Rattle.lanes.specs.Lanes.{mostLanes, laneAt, joinedAt, eights}
 use Rattle.lanes.specs.LaneLaws.{joined-is}
+use Rattle.lanes.specs.declared.Form.{Form}
 use Rattle.params_low.specs.Low.{isVoid}
 use Rattle.params_rules.specs.Fields.{fieldsOf, answer}
 use Rattle.params_rules.specs.FieldLaws.{answer-void, void-alone}
@@ -20,7 +21,7 @@ use Rattle.params.specs.Params.{paramsOf}
 use Rattle.params.specs.Laws.{answer-is}
 use Rattle.block_void.specs.Void.{voidAnswer, voidWord}
 use Rattle.block_void.specs.VoidLaws.{void-true}
-use Rattle.block_ordinary.specs.Ordinary.{ordinaryWord, lanesOf}
+use Rattle.block_ordinary.specs.Ordinary.{ordinaryWord, lanesIn, lanesOf}
 use Rattle.block_map.specs.Answer.{mapAnswer}
 use Rattle.block_map.specs.AnswerLaws.{map-answer}
 use Rattle.block.specs.Block.{blockBits, magenta, colourOf, wordOfParams, blockWord, wordAt, outcomeOf}
@@ -40,7 +41,7 @@ module _ (s : List ℕ) (foot : Footprint) where
   -- a legal one has its words in its lanes
   pub word-legal : listed foot ≡ true → (before lanes : List ℕ) (t : ℕ) → length before ≡ mostLanes → lanes ≡ lanesOf (blockBits s) foot before
       → outcomeOf (blockBits s) foot .answer ≡ 0 → t < texelsOf foot → joinedAt lanes t ≡ wordAt s foot t
-  unfolding outcomeOf wordAt blockWord wordOfParams lanesOf
+  unfolding outcomeOf wordAt blockWord wordOfParams lanesIn
   word-legal l before lanes t n e z h =
       let v = blockBits s in
       let p = paramsOf v foot in
@@ -50,7 +51,7 @@ module _ (s : List ℕ) (foot : Footprint) where
 
 module _ (v : ℕ) (foot : Footprint) where
   pub lanes-length : (before lanes : List ℕ) → lanes ≡ lanesOf v foot before → length lanes ≡ length before
-  unfolding lanesOf
+  unfolding lanesIn
   lanes-length before lanes e = ap length e ∙ go (eqb (paramsOf v foot .answer) 0)
     where
       go : (t : Bool) → length (cond t (put (laneAt (ordinaryWord (paramsOf v foot) v foot)) 0 (2 * eights (texelsOf foot)) before) before) ≡ length before
@@ -63,20 +64,21 @@ module _ (v : ℕ) (foot : Footprint) where
   void-is a w e f z = rw (z, f, answer-void v foot (void-true v a e z))
 
   pub void-lanes : (a : ℕ) (lanes : List ℕ) → a ≡ voidAnswer v → a ≡ 1 → lanes ≡ lanesOf v foot lanes
-  unfolding lanesOf
+  unfolding lanesIn
   void-lanes a lanes e z = rw (answer-is (fieldsOf v) foot, answer-void v foot (void-true v a e z))
 
   -- ---- the two ways out of the decoding of a block that is not void
-  abbrev Ends : Outcome → List ℕ → List ℕ → Type 0
-  Ends r before lanes = (r ≡ outcomeOf v foot) × (lanes ≡ lanesOf v foot before)
+  abbrev Ends : Form → Outcome → List ℕ → List ℕ → Type 0
+  Ends form r before lanes = (r ≡ outcomeOf v foot) × (lanes ≡ lanesIn form v foot before)
 
-  pub ends-legal : (a : ℕ) (before lanes : List ℕ) → a ≡ 0 → (a ≡ answer (fieldsOf v) foot) × (lanes ≡ lanesOf v foot before) → Ends (record { answer = a; word = 0 }) before lanes
+  pub ends-legal : (form : Form) (a : ℕ) (before lanes : List ℕ) → a ≡ 0 → (a ≡ answer (fieldsOf v) foot) × (lanes ≡ lanesIn form v foot before)
+      → Ends form (record { answer = a; word = 0 }) before lanes
   unfolding outcomeOf
-  ends-legal a before lanes z d =
+  ends-legal form a before lanes z d =
       let p : answer (fieldsOf v) foot ≡ 0 = sym (d .0) ∙ z in
       rw (p, z) (refl, d .1)
 
-  pub ends-refused : (a : ℕ) (before lanes : List ℕ) → isVoid v ≡ false → (a ≡ 0 → ⊥) → (a ≡ answer (fieldsOf v) foot) × (lanes ≡ lanesOf v foot before)
-      → Ends (record { answer = a; word = magenta }) before lanes
+  pub ends-refused : (form : Form) (a : ℕ) (before lanes : List ℕ) → isVoid v ≡ false → (a ≡ 0 → ⊥) → (a ≡ answer (fieldsOf v) foot) × (lanes ≡ lanesIn form v foot before)
+      → Ends form (record { answer = a; word = magenta }) before lanes
   unfolding outcomeOf colourOf
-  ends-refused a before lanes h n d = rw (← (d .0), ne-eqb a 0 n, ne-eqb a 1 (λ z. void-alone v foot h (sym (d .0) ∙ z))) (refl, d .1)
+  ends-refused form a before lanes h n d = rw (← (d .0), ne-eqb a 0 n, ne-eqb a 1 (λ z. void-alone v foot h (sym (d .0) ∙ z))) (refl, d .1)

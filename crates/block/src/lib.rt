@@ -8,11 +8,12 @@ ghost use Rattle.footprint.specs.Footprints.{texelsOf, listed};
 ghost use Rattle.bits.specs.Blocks.{valueOf};
 ghost use Rattle.params_low.specs.Low.{isVoid};
 ghost use Rattle.block_tables.specs.Tables.{Lent};
-ghost use Rattle.block_ordinary.specs.Ordinary.{lanesOf};
+ghost use Rattle.block_ordinary.specs.Ordinary.{lanesIn};
 ghost use Rattle.block_map.specs.Answer.{answerOf};
 ghost use Rattle.block.specs.Block.{blockBits, wordAt, outcomeOf, paintedOf};
 use bits::Block;
 use footprint::Footprint;
+use lanes::Form;
 use lanes::LANES;
 
 // What a block that breaks a rule is painted with.
@@ -24,8 +25,8 @@ pub struct Outcome {
     pub word: u32,
 }
 
-// Decodes a block that is not void, at a listed footprint, with lent tables. The lanes of a legal block's words are put into `lanes`; a block
-// that breaks a rule is magenta, and puts none. Block and footprint are made anew of their numbers, which are then handed over in registers.
+// Decodes a block that is not void, at a listed footprint, with lent tables. The lanes of a legal block, its words or its samples, are put
+// into `lanes`; a block that breaks a rule is magenta, and puts none. Block and footprint are made anew of their numbers, which are then handed over in registers.
 pub fn decode_lanes<'a>(
     rev: &'a [u8; 256],
     t: &'a [u16; 256],
@@ -33,16 +34,17 @@ pub fn decode_lanes<'a>(
     b: Block,
     f: Footprint,
     lanes: &mut [u16; LANES],
+    form: Form,
 ) -> Outcome
     requires { ⌜ (Lent (now rev) (now t) (now q)) × ((isVoid (valueOf b) ≡ false) × (listed f ≡ true)) ⌝ }
-    ensures { λ r. ⌜ (r ≡ outcomeOf (valueOf b) f) × (now (lanes .exit) ≡ lanesOf (valueOf b) f (now (lanes .entry))) ⌝ }
+    ensures { λ r. ⌜ (r ≡ outcomeOf (valueOf b) f) × (now (lanes .exit) ≡ lanesIn form (valueOf b) f (now (lanes .entry))) ⌝ }
 {
     let own = Block { lo: b.lo, hi: b.hi };
     let foot = Footprint {
         width: f.width,
         height: f.height,
     };
-    let answer = block_ordinary::decode_ordinary(rev, t, q, own, foot, lanes);
+    let answer = block_ordinary::decode_ordinary(rev, t, q, own, foot, lanes, form);
     if answer == answers::LEGAL {
         return Outcome { answer, word: 0 };
     }
@@ -73,6 +75,7 @@ fn decode_words(s: &[u8], f: Footprint, out: &mut [u32]) -> usize
         b,
         f,
         &mut lanes,
+        Form::Words,
     );
     if r.answer == answers::LEGAL {
         lanes::copy(&lanes, 0, out, 0, n);

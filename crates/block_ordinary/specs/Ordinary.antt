@@ -1,4 +1,4 @@
--- The words of an ordinary block's texels. v is the block's number of 128 bits, read by whole fields alone: the low configuration, the extra
+-- The words and the samples of an ordinary block's texels. v is the block's number of 128 bits, read by whole fields alone: the low configuration, the extra
 -- field, the endpoints and the weights.
 -- Assumes nothing.
 use mathlib.Core.Bool.{cond}
@@ -12,6 +12,8 @@ use Rattle.sequence_groups.specs.Sequence.{valuesOf}
 use Rattle.footprint.specs.Footprints.{texelsOf, mostTexels}
 use Rattle.footprint.specs.declared.Footprint.{Footprint}
 use Rattle.lanes.specs.Lanes.{laneAt, eights}
+use Rattle.lanes.specs.declared.Form.{Form}
+use Rattle.lanes.specs.declared.Form.the-variants.{Words, Samples}
 use Rattle.params.specs.Params.{paramsOf, endsField, weightsField}
 use Rattle.params.specs.declared.Params.{Params}
 use Rattle.endpoints_unquantise.specs.Unquantised.{endpointValues}
@@ -20,7 +22,9 @@ use Rattle.endpoints_colours.specs.declared.Endpoints.{Endpoints}
 use Rattle.weights.specs.Weights.{weightsOf}
 use Rattle.weights_grid.specs.declared.Grid.{Grid}
 use Rattle.partition.specs.Partition.{partitionAt}
-use Rattle.texels.specs.Texels.{texelWord}
+use Rattle.channels.specs.declared.Sample.{Sample}
+use Rattle.texels.specs.Texels.{texelWord, texelSample}
+use Rattle.texels.specs.Samples.{samplesIn}
 
 -- ---- a legal block, of its parameters p and two more fields
 -- the endpoints of its partitions, from the endpoint field
@@ -47,8 +51,23 @@ unfoldable pub ordinaryWord : Params → ℕ → Footprint → ℕ → ℕ
 ordinaryWord p v foot t =
     texelWord (endsOf p (endsField p v)) (weightsIn p foot (weightsField p v)) (partitionsIn p foot) (p .config .planes) (p .channel) t
 
--- ---- the code's step: the lanes h with those of a legal block's words, to the next multiple of 8 texels
-unfoldable pub lanesOf : ℕ → Footprint → List ℕ → List ℕ
-lanesOf v foot h =
+-- and the sample of its channel k
+unfoldable pub ordinarySample : Params → ℕ → Footprint → ℕ → ℕ → Sample
+ordinarySample p v foot t k =
+    texelSample (endsOf p (endsField p v)) (weightsIn p foot (weightsField p v)) (partitionsIn p foot) (p .config .planes) (p .channel) t k
+
+-- ---- the code's step
+-- the lanes h with those of a legal block's texels, to the next multiple of 8: their words, or their samples
+abbrev pub formOf : Form → Params → ℕ → Footprint → List ℕ → List ℕ
+formOf Words p v foot h = put (laneAt (ordinaryWord p v foot)) 0 (2 * eights (texelsOf foot)) h
+formOf Samples p v foot h = samplesIn (texelsOf foot) (ordinarySample p v foot) h
+
+-- the same of any block: one that is not legal puts none
+unfoldable pub lanesIn : Form → ℕ → Footprint → List ℕ → List ℕ
+lanesIn form v foot h =
     let p = paramsOf v foot in
-    cond (eqb (p .answer) 0) (put (laneAt (ordinaryWord p v foot)) 0 (2 * eights (texelsOf foot)) h) h
+    cond (eqb (p .answer) 0) (formOf form p v foot h) h
+
+-- those of words
+abbrev pub lanesOf : ℕ → Footprint → List ℕ → List ℕ
+lanesOf v foot h = lanesIn Words v foot h

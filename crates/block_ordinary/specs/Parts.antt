@@ -20,6 +20,8 @@ use Rattle.sequence_groups.specs.SequenceLaws.{values-lt, values-past}
 use Rattle.footprint.specs.Footprints.{texelsOf, mostTexels, mostWeights}
 use Rattle.footprint.specs.declared.Footprint.{Footprint}
 use Rattle.lanes.specs.Lanes.{laneAt, eights}
+use Rattle.lanes.specs.declared.Form.{Form}
+use Rattle.lanes.specs.declared.Form.the-variants.{Words, Samples}
 use Rattle.params_rules.specs.Fields.{fieldsOf, answer}
 use Rattle.params.specs.Params.{paramsOf, endsField, weightsField}
 use Rattle.params.specs.Laws.{answer-is}
@@ -37,8 +39,9 @@ use Rattle.weights.specs.Weights.{weightsOf}
 use Rattle.partition.specs.Partition.{partitionAt}
 use Rattle.partition.specs.PartitionLaws.{partition-below}
 use Rattle.texels.specs.Given.{Given as PaintGiven}
-use Rattle.texels.specs.Texels.{texelWord}
-use Rattle.block_ordinary.specs.Ordinary.{endsOf, gridOf, countOf, weightsIn, partitionsIn, ordinaryWord, lanesOf}
+use Rattle.texels.specs.Texels.{texelWord, texelSample}
+use Rattle.texels.specs.Samples.{samplesIn}
+use Rattle.block_ordinary.specs.Ordinary.{endsOf, gridOf, countOf, weightsIn, partitionsIn, ordinaryWord, ordinarySample, formOf, lanesIn}
 use Rattle.block_ordinary.specs.Facts.{Facts, Ready}
 
 -- ---- a range that a call is given
@@ -126,21 +129,26 @@ module _ (p : Params) (foot : Footprint) (f : Facts p) where
     mapped = λ i. rw c (partitions-below h i);
   }
 
-pub painted-is : (p : Params) (v : ℕ) (foot : Footprint) (n : ℕ) (ends : List Endpoints) (w parts s out : List ℕ) → ends ≡ endsOf p (endsField p v) → w ≡ weightsIn p foot (weightsField p v)
-    → parts ≡ partitionsIn p foot → n ≡ texelsOf foot → out ≡ put (laneAt (texelWord ends w parts (p .config .planes) (p .channel))) 0 (2 * eights n) s
-    → out ≡ put (laneAt (ordinaryWord p v foot)) 0 (2 * eights (texelsOf foot)) s
-unfolding ordinaryWord
-painted-is p v foot n ends w parts s out a b c e d = d ∙ rw (a, b, c, e)
+-- what was put is the block's, by the form
+module _ (p : Params) (v : ℕ) (foot : Footprint) (n : ℕ) (ends : List Endpoints) (w parts s out : List ℕ) (a : ends ≡ endsOf p (endsField p v)) (b : w ≡ weightsIn p foot (weightsField p v))
+    (c : parts ≡ partitionsIn p foot) (e : n ≡ texelsOf foot) (form : Form) where
+  pub words-put : form ≡ Words → out ≡ put (laneAt (texelWord ends w parts (p .config .planes) (p .channel))) 0 (2 * eights n) s → out ≡ formOf form p v foot s
+  unfolding ordinaryWord
+  words-put q d = d ∙ rw (q, a, b, c, e)
 
--- ---- the code has painted the lanes of a legal block's words, or none
+  pub samples-put : form ≡ Samples → out ≡ samplesIn n (texelSample ends w parts (p .config .planes) (p .channel)) s → out ≡ formOf form p v foot s
+  unfolding ordinarySample
+  samples-put q d = d ∙ rw (q, a, b, c, e)
+
+-- ---- the code has put the lanes of a legal block, or none
 module _ (p : Params) (v : ℕ) (foot : Footprint) (q : p ≡ paramsOf v foot) where
   pub answer-told : p .answer ≡ answer (fieldsOf v) foot
   answer-told = ap (λ (x : Params). x .answer) q ∙ answer-is (fieldsOf v) foot
 
-  pub lanes-legal : (s out : List ℕ) → p .answer ≡ 0 → out ≡ put (laneAt (ordinaryWord p v foot)) 0 (2 * eights (texelsOf foot)) s → out ≡ lanesOf v foot s
-  unfolding lanesOf
-  lanes-legal s out z d = rw (← q, eq-eqb (p .answer) 0 z) d
+  pub lanes-legal : (form : Form) (s out : List ℕ) → p .answer ≡ 0 → out ≡ formOf form p v foot s → out ≡ lanesIn form v foot s
+  unfolding lanesIn
+  lanes-legal form s out z d = rw (← q, eq-eqb (p .answer) 0 z) d
 
-  pub lanes-none : (s : List ℕ) → (p .answer ≡ 0 → ⊥) → s ≡ lanesOf v foot s
-  unfolding lanesOf
-  lanes-none s n = rw (← q, ne-eqb (p .answer) 0 n)
+  pub lanes-none : (form : Form) (s : List ℕ) → (p .answer ≡ 0 → ⊥) → s ≡ lanesIn form v foot s
+  unfolding lanesIn
+  lanes-none form s n = rw (← q, ne-eqb (p .answer) 0 n)

@@ -1,25 +1,23 @@
 // A block that is not void: from its fields to the lanes of its texels.
 ghost use mathlib.Core.Path.{_≡_};
 ghost use mathlib.Core.Bool.{true, false};
-ghost use Prim.Native.Nat.{_*_};
 ghost use lib.ListN.{replicate};
-ghost use Rattle.laws.specs.Lists.{put};
 ghost use Rattle.bits.specs.Blocks.{valueOf};
 ghost use Rattle.sequence_ranges.specs.Digits.{tritTable, quintTable};
-ghost use Rattle.footprint.specs.Footprints.{texelsOf, mostTexels, mostWeights, listed};
+ghost use Rattle.footprint.specs.Footprints.{mostTexels, mostWeights, listed};
 ghost use Rattle.footprint.specs.Sides.{Sides};
-ghost use Rattle.lanes.specs.Lanes.{laneAt, eights};
 ghost use Rattle.block_tables.specs.Tables.{Lent};
 ghost use Rattle.params_low.specs.Low.{isVoid};
 ghost use Rattle.params_rules.specs.Fields.{fieldsOf, answer};
 ghost use Rattle.params.specs.Params.{endsField, weightsField};
-ghost use Rattle.block_ordinary.specs.Ordinary.{endsOf, weightsIn, partitionsIn, ordinaryWord, lanesOf};
+ghost use Rattle.block_ordinary.specs.Ordinary.{endsOf, weightsIn, partitionsIn, formOf, lanesIn};
 ghost use Rattle.block_ordinary.specs.Facts.{Facts, Ready};
 use bits::Block;
 use endpoints_colours::Endpoints;
 use footprint::Footprint;
 use footprint::TEXELS;
 use footprint::WEIGHTS;
+use lanes::Form;
 use lanes::LANES;
 use params::Params;
 use weights_grid::Grid;
@@ -103,9 +101,9 @@ pub struct BlockData {
     pub partition: [u8; TEXELS],
 }
 
-// Paints the lanes of a legal block's words. Its record is made and filled here, where it is used: handed on by value it would be
+// Puts the lanes of a legal block, its words or its samples. Its record is made and filled here, where it is used: handed on by value it would be
 // copied.
-fn paint_ordinary(
+fn put_ordinary(
     rev: &[u8; 256],
     t: &[u16; 256],
     q: &[u16; 128],
@@ -113,9 +111,10 @@ fn paint_ordinary(
     p: Params,
     f: Footprint,
     lanes: &mut [u16; LANES],
+    form: Form,
 )
     requires { ⌜ (Lent (now rev) (now t) (now q)) × (Ready p f) ⌝ }
-    ensures { λ _. ⌜ now (lanes .exit) ≡ put (laneAt (ordinaryWord p (valueOf b) f)) 0 (2 * eights (texelsOf f)) (now (lanes .entry)) ⌝ }
+    ensures { λ _. ⌜ now (lanes .exit) ≡ formOf form p (valueOf b) f (now (lanes .entry)) ⌝ }
 {
     let k = p.config;
     let mut d = BlockData {
@@ -130,19 +129,31 @@ fn paint_ordinary(
     weights_of(&mut d.weights, rev, t, q, b, p, f);
     partition_of(&mut d.partition, p, f);
     let ends = d.endpoints;
-    texels_paint::applicate_color(
-        lanes,
-        d.n,
-        d.parts,
-        d.planes,
-        d.channel,
-        ends,
-        &d.weights,
-        &d.partition,
-    );
+    match form {
+        Form::Words => texels_paint::applicate_color(
+            lanes,
+            d.n,
+            d.parts,
+            d.planes,
+            d.channel,
+            ends,
+            &d.weights,
+            &d.partition,
+        ),
+        Form::Samples => texels_samples::put_samples(
+            lanes,
+            d.n,
+            d.parts,
+            d.planes,
+            d.channel,
+            ends,
+            &d.weights,
+            &d.partition,
+        ),
+    }
 }
 
-// Puts the lanes of a legal block's words at a listed footprint, with lent tables; a block that breaks a rule puts none. It gives the answer.
+// Puts the lanes of a legal block at a listed footprint, with lent tables; a block that breaks a rule puts none. It gives the answer.
 pub fn decode_ordinary(
     rev: &[u8; 256],
     t: &[u16; 256],
@@ -150,14 +161,15 @@ pub fn decode_ordinary(
     b: Block,
     f: Footprint,
     lanes: &mut [u16; LANES],
+    form: Form,
 ) -> usize
     requires { ⌜ (Lent (now rev) (now t) (now q)) × ((isVoid (valueOf b) ≡ false) × (listed f ≡ true)) ⌝ }
-    ensures { λ a. ⌜ (a ≡ answer (fieldsOf (valueOf b)) f) × (now (lanes .exit) ≡ lanesOf (valueOf b) f (now (lanes .entry))) ⌝ }
+    ensures { λ a. ⌜ (a ≡ answer (fieldsOf (valueOf b)) f) × (now (lanes .exit) ≡ lanesIn form (valueOf b) f (now (lanes .entry))) ⌝ }
 {
     let p = params::decode_block_params(b, f);
     let a = p.answer;
     if a == answers::LEGAL {
-        paint_ordinary(rev, t, q, b, p, f, lanes);
+        put_ordinary(rev, t, q, b, p, f, lanes, form);
         return answers::LEGAL;
     }
     a

@@ -9,7 +9,10 @@ use Rattle.bits.specs.Bits.{bitsAt}
 use Rattle.half.specs.Half.{voidByteOf}
 use Rattle.params_low.specs.Low.{isVoid}
 use Rattle.blend.specs.Blend.{wordOf}
-use Rattle.block_void.specs.Void.{voidAnswer, voidWord}
+use Rattle.channels.specs.declared.Sample.{Sample}
+use Rattle.channels.specs.declared.Sample.the-variants.{Byte, Half}
+use Rattle.channels.specs.declared.Samples.{Samples}
+use Rattle.block_void.specs.Void.{voidAnswer, voidWord, voidSample, voidSamples}
 
 -- ---- the answer
 pub told-void : (v : ℕ) → isVoid v ≡ true → 1 ≡ voidAnswer v
@@ -47,3 +50,15 @@ pub void-bytes : (v x r g b a w : ℕ) → x ≡ bitsAt v 9 1 → (x ≡ 1 → �
     → w ≡ wordOf r g b a → w ≡ voidWord v
 unfolding voidWord
 void-bytes v x r g b a w e h er eg eb ea ew = ew ∙ rw (er, eg, eb, ea, ne-eqb (bitsAt v 9 1) 1 (λ z. h (e ∙ z)))
+
+-- ---- its samples
+module _ (v x : ℕ) (e : x ≡ bitsAt v 9 1) (r g b a : Sample) where
+  pub samples-halves : x ≡ 1 → r ≡ Half (bitsAt v 64 16) → g ≡ Half (bitsAt v 80 16) → b ≡ Half (bitsAt v 96 16) → a ≡ Half (bitsAt v 112 16)
+      → record { r = r; g = g; b = b; a = a } ≡ voidSamples v
+  unfolding voidSample
+  samples-halves h er eg eb ea = rw (er, eg, eb, ea, eq-eqb (bitsAt v 9 1) 1 (sym e ∙ h))
+
+  pub samples-bytes : (x ≡ 1 → ⊥) → r ≡ Byte (bitsAt v 72 8) → g ≡ Byte (bitsAt v 88 8) → b ≡ Byte (bitsAt v 104 8) → a ≡ Byte (bitsAt v 120 8)
+      → record { r = r; g = g; b = b; a = a } ≡ voidSamples v
+  unfolding voidSample
+  samples-bytes h er eg eb ea = rw (er, eg, eb, ea, ne-eqb (bitsAt v 9 1) 1 (λ z. h (e ∙ z)))

@@ -14,41 +14,8 @@ use lib.Ieee.Bits.{is-true, is-false, cond-no, nanBits-is, ofBits-fits}
 use lib.Ieee.Exact.{HasValue, odd-sign, round-exact}
 use lib.Ieee.Back.{round-whole}
 use Rattle.half.specs.Half.{sign, sig, value, half, field, digits, product}
-use Rattle.half.proofs.Values.{value-unique, rescale, mul-val, odd-shift}
-
--- ---- the specification's values
-pub not-eqb : (a b : ℕ) → (a ≡ b → ⊥) → T (not (eqb a b))
-not-eqb a b h = not-T (eqb a b) (λ (u : T (eqb a b)). h (eqb→eq a b u))
-
-pub value-is : (s : Bool) (x t : ℕ) → (x ≡ 31 → ⊥) → value s x t ≡ odd 11 s (sig x t) (x - 1) 24
-unfolding value
-value-is s x t h = cond-no (eqb x 31) (cond (eqb t 0) (inf s) nan) (odd 11 s (sig x t) (x - 1) 24) (not-eqb x 31 h)
-
-pub value-val : (s : Bool) (x t : ℕ) → (x ≡ 31 → ⊥) → HasValue (value s x t) s (sig x t * 2 ^ (x - 1)) (2 ^ 24)
-value-val s x t h = subst (λ (v : Float). HasValue v s (sig x t * 2 ^ (x - 1)) (2 ^ 24)) (sym (value-is s x t h)) (odd-sign 11 s (sig x t) (x - 1) 24)
-
-pub sig-lt : (x t : ℕ) → t < 1024 → sig x t < 2 ^ 11
-sig-lt x t h = go (eqb x 0)
-  where
-    go : (b : Bool) → cond b t (1024 + t) < 2 ^ 11
-    go true = omega arith
-    go false = omega arith
-
--- q * 2 ^ j units, far below the largest
-pub room : (q d k j : ℕ) → q < 2 ^ d → d + (k + j) ≤ 277 → q * 2 ^ (k + j) < 2 ^ 277
-room q d k j h l = lt-of-lt-of-le (shl-lt d (k + j) h) (pow-mono l)
-
-pub value-fits : (s : Bool) (x t : ℕ) → x < 32 → t < 1024 → T (fits binary32 (value s x t))
-unfolding value
-value-fits s x t h k =
-    cond-fits binary32 (eqb x 31) (cond (eqb t 0) (inf s) nan) (odd 11 s (sig x t) (x - 1) 24)
-    (cond-fits binary32 (eqb t 0) (inf s) nan (inf-fits binary32 s) (nan-fits binary32))
-    (subst (λ (v : Float). T (fits binary32 v)) (sym (odd-shift 11 s (sig x t) (x - 1) 24 125))
-    (odd-fits binary32 11 s (sig x t) (x - 1 + 125) (sig-lt x t k) (le-of-lt (lt-of-lt-of-le (sig-lt x t k) (lit≤ tt))) (room (sig x t) 11 (x - 1) 125 (sig-lt x t k) (omega arith))))
-
--- what has a half's fraction, and fits, is the half
-pub value-of : (v : Float) (s : Bool) (x t : ℕ) → x < 32 → t < 1024 → (x ≡ 31 → ⊥) → T (fits binary32 v) → HasValue v s (sig x t * 2 ^ (x - 1)) (2 ^ 24) → v ≡ value s x t
-value-of v s x t h k n p w = value-unique binary32 v (value s x t) s (sig x t * 2 ^ (x - 1)) (2 ^ 24) (pow-pos 24) p (value-fits s x t h k) w (value-val s x t n)
+use Rattle.half.specs.Fractions.{value-unique, rescale, mul-val, odd-shift}
+use Rattle.half.specs.HalfLaws.{not-eqb, value-val, sig-lt, room, value-of}
 
 -- ---- the sign
 odd-neg : (d q k l : ℕ) → odd d true q k l ≡ neg (odd d false q k l)

@@ -22,8 +22,9 @@ use mir.Syntax.{w8, w32}
 use mir.Val.{Fits, toZ, ofZ}
 use mir.ValLaws.{toZ-pos}
 use Rattle.half.specs.Half.{sign, field, digits, sig, product, whole, hdrByte}
-use Rattle.half.proofs.Values.{mul-val}
-use Rattle.half.proofs.Halves.{sig-lt, times-lt, eq-or-not, product-val, no-nan}
+use Rattle.half.specs.Fractions.{mul-val}
+use Rattle.half.specs.HalfLaws.{sig-lt}
+use Rattle.half.proofs.Halves.{times-lt, eq-or-not, product-val, no-nan}
 
 -- ---- a product is numer / 2 ^ 24, and 2 ^ 23 times it, from the field 2 on, is scaled
 abbrev numer : ℕ → ℕ → ℕ

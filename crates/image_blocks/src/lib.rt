@@ -12,6 +12,7 @@ ghost use Rattle.image_shape.specs.ShapeLaws.{Sized};
 ghost use Rattle.image_blocks.specs.Painted.{paintedBlocks, badIn};
 ghost use Rattle.image_blocks.specs.Spots.{At, nextOf};
 use image_shape::Shape;
+use lanes::Form;
 use lanes::LANES;
 
 // A block of an image: its number, its column and its row.
@@ -69,7 +70,7 @@ fn paint_block<'a>(
         image_window::fill_block(block_void::void_color(b), m, at.column, at.row, out);
         return a;
     }
-    let r = block::decode_lanes(rev, t, q, b, m.footprint, lanes);
+    let r = block::decode_lanes(rev, t, q, b, m.footprint, lanes, Form::Words);
     if r.answer == answers::LEGAL {
         image_window::copy_block(lanes, m, at.column, at.row, out);
         return answers::LEGAL;

@@ -1,4 +1,4 @@
--- Words in two lanes of 16 bits each.
+-- Lanes of 16 bits: words in two each, samples in four.
 -- Assumes nothing.
 use mathlib.Core.Bool.{cond}
 use mathlib.Core.List.{List}
@@ -6,9 +6,9 @@ use Prim.Native.Nat.{ℕ, _+_, _*_, _/_, _%_}
 use lib.Dec.{eqb}
 use lib.ListN.{getD}
 
--- two for each texel of the largest footprint
+-- four for each texel of the largest footprint
 abbrev pub mostLanes : ℕ
-mostLanes = 288
+mostLanes = 576
 
 -- lane k of the words f 0, f 1, ..: the low 16 bits of f (k / 2), with blue and green, and then the high ones, with red and alpha
 unfoldable pub laneAt : (ℕ → ℕ) → ℕ → ℕ

@@ -1,4 +1,5 @@
-// The words of texels in two lanes of 16 bits each, as loops paint them eight texels at a time, and whole, as they leave for an output.
+// Numbers of 16 bits, lanes, as loops write them for eight texels at a time: the words of texels in two lanes each, which leave whole for an
+// output, or their samples in four.
 ghost use mathlib.Core.Path.{_≡_};
 ghost use Prim.Native.Nat.{ℕ, _+_, _≤_, _<_};
 ghost use lib.ListN.{length};
@@ -6,8 +7,14 @@ ghost use Rattle.laws.specs.Lists.{putAt};
 ghost use Rattle.footprint.specs.Footprints.{mostTexels, mostWeights};
 ghost use Rattle.lanes.specs.Lanes.{eights, joinedAt};
 
-// Two lanes for each texel of the largest footprint.
-pub const LANES: usize = 288;
+// Four lanes for each texel of the largest footprint.
+pub const LANES: usize = 576;
+
+// What the lanes of a block are to hold: the words of its texels, or the samples of their channels.
+pub enum Form {
+    Words,
+    Samples,
+}
 
 // The next multiple of eight: a loop to there has no remainder.
 pub fn eights(n: usize) -> usize

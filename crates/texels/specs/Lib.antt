@@ -6,3 +6,5 @@ pub mod KindLaws
 pub mod TexelLaws
 pub mod Values
 pub mod TurnLaws
+pub mod Samples
+pub mod SampleLaws

@@ -8,14 +8,17 @@ use lib.ListN.{getD}
 use Rattle.footprint.specs.Footprints.{mostTexels}
 use Rattle.half.specs.Half.{hdrByteOf}
 use Rattle.blend.specs.Blend.{ldrBlend, hdrHalf, crateByte, wordOf}
+use Rattle.channels.specs.Channels.{finite}
+use Rattle.channels.specs.declared.Sample.{Sample}
+use Rattle.channels.specs.declared.Sample.the-variants.{Byte, Half}
 use Rattle.endpoints_colours.specs.Colours.{nothing, markOf, firstOf, secondOf}
 use Rattle.endpoints_colours.specs.declared.Mark.{Mark}
 use Rattle.endpoints_colours.specs.declared.Mark.the-variants.{Ldr, Hdr}
 use Rattle.endpoints_colours.specs.declared.Endpoints.{Endpoints}
 
--- ---- a channel, before it is reduced to a byte
+-- ---- a channel, blended
 -- its mark, and its value: of 16 bits where it is LDR, a half where it is HDR
-pub record Channel : Type 0 where
+pub record Blended : Type 0 where
   pub mark : Mark
   pub value : ℕ
 
@@ -33,12 +36,12 @@ abbrev pub weightAt : List ℕ → ℕ → ℕ → ℕ → ℕ → ℕ
 weightAt weights planes channel i k = getD weights (mostTexels * planeOf planes channel k + i) 0
 
 -- channel k between the endpoints e, at a weight
-abbrev pub channelOf : Endpoints → ℕ → ℕ → Channel
-channelOf e k w = record { mark = markOf e k; value = blendBy (markOf e k) (firstOf e k) (secondOf e k) w }
+abbrev pub blendedOf : Endpoints → ℕ → ℕ → Blended
+blendedOf e k w = record { mark = markOf e k; value = blendBy (markOf e k) (firstOf e k) (secondOf e k) w }
 
 -- channel k of texel i. The map has each texel's partition
-abbrev pub channelAt : List Endpoints → List ℕ → List ℕ → ℕ → ℕ → ℕ → ℕ → Channel
-channelAt ends weights map planes channel i k = channelOf (getD ends (getD map i 0) nothing) k (weightAt weights planes channel i k)
+abbrev pub blendedAt : List Endpoints → List ℕ → List ℕ → ℕ → ℕ → ℕ → ℕ → Blended
+blendedAt ends weights map planes channel i k = blendedOf (getD ends (getD map i 0) nothing) k (weightAt weights planes channel i k)
 
 -- ---- reduced to a byte
 -- as the crate does it, by the mark
@@ -47,12 +50,23 @@ crateReduction Ldr c = crateByte c
 crateReduction Hdr h = hdrByteOf h
 
 -- the word of four channels, each by a reduction
-abbrev pub wordFrom : (Mark → ℕ → ℕ) → (ℕ → Channel) → ℕ
+abbrev pub wordFrom : (Mark → ℕ → ℕ) → (ℕ → Blended) → ℕ
 wordFrom reduced c = wordOf (reduced (c 0 .mark) (c 0 .value)) (reduced (c 1 .mark) (c 1 .value)) (reduced (c 2 .mark) (c 2 .value)) (reduced (c 3 .mark) (c 3 .value))
 
 -- the word of texel i
 unfoldable pub texelWord : List Endpoints → List ℕ → List ℕ → ℕ → ℕ → ℕ → ℕ
-texelWord ends weights map planes channel i = wordFrom crateReduction (channelAt ends weights map planes channel i)
+texelWord ends weights map planes channel i = wordFrom crateReduction (blendedAt ends weights map planes channel i)
+
+-- ---- as it is answered: reduced to a byte where it is LDR, and else the half, the largest finite one in place of infinity and NaN
+abbrev pub sampleOf : Mark → ℕ → Sample
+sampleOf Ldr c = Byte (crateByte c)
+sampleOf Hdr h = Half (finite h)
+
+-- channel k of texel i
+unfoldable pub texelSample : List Endpoints → List ℕ → List ℕ → ℕ → ℕ → ℕ → ℕ → Sample
+texelSample ends weights map planes channel i k =
+    let c = blendedAt ends weights map planes channel i k in
+    sampleOf (c .mark) (c .value)
 
 -- ---- short names for both at once
 -- a channel between two endpoints as a byte, by their mark: `ldrChannel` or `hdrChannel`

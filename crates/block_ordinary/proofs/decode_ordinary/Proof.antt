@@ -1,4 +1,4 @@
--- `block_ordinary::decode_ordinary` meets its contract by the answer: a legal block's lanes are painted, and no other's. Assumes nothing.
+-- `block_ordinary::decode_ordinary` meets its contract by the answer: a legal block's lanes are put, and no other's. Assumes nothing.
 use Rattle.block_ordinary.specs.Facts.{ready}
 use Rattle.block_ordinary.specs.Parts.{answer-told, lanes-legal, lanes-none}
 use mathlib.Core.Path.{sym, _∙_}
@@ -9,8 +9,8 @@ use Rattle.block_ordinary.proofs.decode_ordinary.Tie as tie
 decode-block-params-requires : tie.Need-decode-block-params-requires
 decode-block-params-requires c κs = search needs
 
-paint-ordinary-requires : tie.Need-paint-ordinary-requires
-paint-ordinary-requires c κs =
+put-ordinary-requires : tie.Need-put-ordinary-requires
+put-ordinary-requires c κs =
     let s = c .before .before .before in
     (s .pre .0, ready _ _ _ (c .before .before .decode-block-params .ensures) (c .before .if1 .taken) (s .pre .1 .1))
 
@@ -18,13 +18,13 @@ returns : tie.Need-returns
 returns c =
     let e = c .before .before .before .decode-block-params .ensures in
     let z = c .before .before .if1 .taken in
-    (sym z ∙ answer-told _ _ _ e, lanes-legal _ _ _ e _ _ z (c .paint-ordinary .ensures))
+    (sym z ∙ answer-told _ _ _ e, lanes-legal _ _ _ e _ _ _ z (c .put-ordinary .ensures))
 
 returns-2 : tie.Need-returns-2
 returns-2 c =
     let e = c .before .decode-block-params .ensures in
-    (answer-told _ _ _ e, lanes-none _ _ _ e _ (c .if1 .left))
+    (answer-told _ _ _ e, lanes-none _ _ _ e _ _ (c .if1 .left))
 
 pub decode-ordinary-spec : {M : Type 1} → statement M
 decode-ordinary-spec =
-    tie.close (tie.spec decode-block-params-requires paint-ordinary-requires returns returns-2)
+    tie.close (tie.spec decode-block-params-requires put-ordinary-requires returns returns-2)

@@ -1,0 +1,54 @@
+-- `channels::pattern_byte` meets its contract: each way out is a law of Patterns. Assumes nothing.
+use native.Mathlib.Omega.{arith}
+use borrow.Author.Needs.{needs}
+use Rattle.channels.proofs.Patterns.{finite-field, ret-infinite, ret-minus, ret-one, ret-none, shifted-lt, ret-shifted}
+use Rattle.channels.proofs.pattern_byte.Statement.{statement}
+use Rattle.channels.proofs.pattern_byte.Tie as tie
+
+add-result : tie.Need-add-result
+add-result c = search needs
+
+mul-result : tie.Need-mul-result
+mul-result c = search needs
+
+sub-result : tie.Need-sub-result
+sub-result c = search needs
+
+shr-result : tie.Need-shr-result
+shr-result c = search needs
+
+cast-result : tie.Need-cast-result
+cast-result c =
+    let tests = c .before .before .before in
+    let n = finite-field _ (c .before .before .before .before .pre) (tests .if1 .left) in
+    record { fits = shifted-lt _ n (omega (arith, c .before .if3 .left)) (omega (arith, c .if4 .left)) }
+
+returns : tie.Need-returns
+returns c = ret-infinite _ (c .if1 .taken)
+
+returns-2 : tie.Need-returns-2
+returns-2 c = ret-minus _ (finite-field _ (c .before .before .pre) (c .before .if1 .left)) (c .if2 .taken)
+
+returns-3 : tie.Need-returns-3
+returns-3 c = ret-one _ (finite-field _ (c .before .before .before .pre) (c .before .before .if1 .left)) (omega (arith, c .before .if2 .left)) (c .if3 .taken)
+
+returns-4 : tie.Need-returns-4
+returns-4 c = ret-none _ (finite-field _ (c .before .before .before .before .pre) (c .before .before .before .if1 .left)) (c .if4 .taken)
+
+returns-5 : tie.Need-returns-5
+returns-5 c = ret-shifted _ (finite-field _ (c .before .before .before .before .pre) (c .before .before .before .if1 .left)) (omega (arith, c .before .if3 .left)) (omega (arith, c .if4 .left))
+
+pub pattern-byte-spec : {M : Type 1} → statement M
+pattern-byte-spec =
+    tie.close
+    (tie.spec
+    add-result
+    mul-result
+    sub-result
+    shr-result
+    cast-result
+    returns
+    returns-2
+    returns-3
+    returns-4
+    returns-5)

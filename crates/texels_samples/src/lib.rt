@@ -1,0 +1,224 @@
+// The samples of a block's texels in lanes, eight at once, one channel after the other.
+ghost use mathlib.Core.Path.{_≡_};
+ghost use Prim.Native.Nat.{ℕ, _≤_, _<_};
+ghost use lib.ListN.{getD};
+ghost use Rattle.laws.specs.Lists.{putAt};
+ghost use Rattle.footprint.specs.Footprints.{mostTexels};
+ghost use Rattle.endpoints_colours.specs.Colours.{nothing};
+ghost use Rattle.channels.specs.Channels.{finite as finiteOf};
+ghost use Rattle.lanes.specs.Lanes.{eights};
+ghost use Rattle.texels.specs.Texels.{texelSample};
+ghost use Rattle.texels.specs.Samples.{samplesIn};
+ghost use Rattle.texels.specs.Given.{Given};
+ghost use Rattle.texels_samples.specs.Planes.{hdrOf, limitBy, sampleLane, pairOf, pairsOf, Bounded, oneAt, anyAt};
+use endpoints_colours::Endpoints;
+use endpoints_colours::Mark;
+use footprint::TEXELS;
+use footprint::WEIGHTS;
+use lanes::LANES;
+use lanes::eights;
+use texels::any;
+use texels::starts_of;
+
+// One channel's ends in a partition, and 1 where they are HDR, else 0.
+pub struct Pair {
+    pub hdr: u16,
+    pub first: u16,
+    pub second: u16,
+}
+
+// The same in each partition.
+pub struct Pairs {
+    pub a: Pair,
+    pub b: Pair,
+    pub c: Pair,
+    pub d: Pair,
+}
+
+// A cast in a function of its own: its caller need not show that the number fits.
+fn wide(x: u8) -> u16
+    ensures { λ r. ⌜ (r ≡ x) × (r < 256) ⌝ }
+{
+    x as u16
+}
+
+fn long(x: u16) -> u32
+    ensures { λ r. ⌜ r ≡ x ⌝ }
+{
+    x as u32
+}
+
+// The largest finite half in place of infinity and of every NaN, for halves with no sign.
+fn finite(h: u16) -> u16
+    ensures { λ r. ⌜ (r ≡ finiteOf h) × (r < 31744) ⌝ }
+{
+    if h < 0x7bff { h } else { 0x7bff }
+}
+
+// One sample as a lane: a byte, or 32768 and a half.
+fn sample(hdr: u16, v0: u16, v1: u16, w: u8) -> u16
+    requires { ⌜ (v0 < limitBy hdr) × (v1 < limitBy hdr) × (w ≤ 64) ⌝ }
+    ensures { λ r. ⌜ r ≡ sampleLane hdr v0 v1 w ⌝ }
+{
+    if hdr == 0 {
+        blend::select_color_byte(v0, v1, wide(w))
+    } else {
+        0x8000 + finite(blend::select_half(long(v0), long(v1), long(wide(w))))
+    }
+}
+
+// One channel of the texels of one partition, from lane `at` on; its weights start at x.
+fn put_one(out: &mut [u16; LANES], at: usize, n: usize, w: &[u8; WEIGHTS], x: usize, e: Pair)
+    requires { ⌜ (at ≤ 432) × (n ≤ mostTexels) × (x ≤ mostTexels) × (e .first < limitBy (e .hdr)) × (e .second < limitBy (e .hdr)) ⌝ ∗ ⌜ ((i : ℕ) → getD (now w) i 0 ≤ 64) ⌝ }
+    ensures { λ _. ⌜ now (out .exit) ≡ putAt (oneAt e (now (w .entry)) x) at (eights n) (now (out .entry)) ⌝ }
+{
+    let hdr = e.hdr;
+    let v0 = e.first;
+    let v1 = e.second;
+    let m = eights(n);
+    let mut i = 0;
+    while i < m {
+        out[at + i] = sample(hdr, v0, v1, w[x + i]);
+        i += 1;
+    }
+}
+
+// The same of any partitions. Their numbers are read before the loop, which would read them anew after each store.
+fn put_any(
+    out: &mut [u16; LANES],
+    at: usize,
+    n: usize,
+    w: &[u8; WEIGHTS],
+    x: usize,
+    map: &[u8; TEXELS],
+    s: Pairs,
+)
+    requires { ⌜ (at ≤ 432) × (n ≤ mostTexels) × (x ≤ mostTexels) × Bounded s ⌝ ∗ ⌜ ((i : ℕ) → getD (now w) i 0 ≤ 64) ⌝ ∗ ⌜ ((i : ℕ) → getD (now map) i 0 < 4) ⌝ }
+    ensures { λ _. ⌜ now (out .exit) ≡ putAt (anyAt s (now (w .entry)) (now (map .entry)) x) at (eights n) (now (out .entry)) ⌝ }
+{
+    let e = s.a;
+    let f = s.b;
+    let g = s.c;
+    let h = s.d;
+    let e0 = e.hdr;
+    let e1 = e.first;
+    let e2 = e.second;
+    let f0 = f.hdr;
+    let f1 = f.first;
+    let f2 = f.second;
+    let g0 = g.hdr;
+    let g1 = g.first;
+    let g2 = g.second;
+    let h0 = h.hdr;
+    let h1 = h.first;
+    let h2 = h.second;
+    let m = eights(n);
+    let mut i = 0;
+    while i < m {
+        let p = map[i];
+        out[at + i] = sample(
+            any(p, e0, f0, g0, h0),
+            any(p, e1, f1, g1, h1),
+            any(p, e2, f2, g2, h2),
+            w[x + i],
+        );
+        i += 1;
+    }
+}
+
+// One channel of the texels.
+fn put_channel<'a>(
+    out: &mut [u16; LANES],
+    at: usize,
+    n: usize,
+    parts: usize,
+    w: &'a [u8; WEIGHTS],
+    x: usize,
+    map: &'a [u8; TEXELS],
+    s: Pairs,
+)
+    requires { ⌜ (at ≤ 432) × (n ≤ mostTexels) × (parts ≤ 4) × (x ≤ mostTexels) × Bounded s ⌝ ∗ ⌜ ((i : ℕ) → getD (now w) i 0 ≤ 64) ⌝ ∗ ⌜ ((i : ℕ) → getD (now map) i 0 < parts) ⌝ }
+    ensures { λ _. ⌜ now (out .exit) ≡ putAt (anyAt s (now (w .entry)) (now (map .entry)) x) at (eights n) (now (out .entry)) ⌝ }
+{
+    if parts == 1 {
+        return put_one(out, at, n, w, x, s.a);
+    }
+    put_any(out, at, n, w, x, map, s);
+}
+
+fn hdr_of(m: Mark) -> u16
+    ensures { λ r. ⌜ r ≡ hdrOf m ⌝ }
+{
+    match m {
+        Mark::Ldr => 0,
+        Mark::Hdr => 1,
+    }
+}
+
+// The ends of channel k, of 0 to 3 for red to alpha.
+fn pair_of(e: Endpoints, k: usize) -> Pair
+    requires { ⌜ k < 4 ⌝ }
+    ensures { λ r. ⌜ r ≡ pairOf e k ⌝ }
+{
+    let color = e.color;
+    let alpha = e.alpha;
+    if k == 0 {
+        Pair {
+            hdr: hdr_of(color),
+            first: e.r0,
+            second: e.r1,
+        }
+    } else if k == 1 {
+        Pair {
+            hdr: hdr_of(color),
+            first: e.g0,
+            second: e.g1,
+        }
+    } else if k == 2 {
+        Pair {
+            hdr: hdr_of(color),
+            first: e.b0,
+            second: e.b1,
+        }
+    } else {
+        Pair {
+            hdr: hdr_of(alpha),
+            first: e.a0,
+            second: e.a1,
+        }
+    }
+}
+
+fn pairs_of(ends: [Endpoints; 4], k: usize) -> Pairs
+    requires { ⌜ k < 4 ⌝ }
+    ensures { λ r. ⌜ r ≡ pairsOf ends k ⌝ }
+{
+    Pairs {
+        a: pair_of(ends[0], k),
+        b: pair_of(ends[1], k),
+        c: pair_of(ends[2], k),
+        d: pair_of(ends[3], k),
+    }
+}
+
+// The samples of n texels, to the next multiple of 8, in lanes: those of channel k start at lane 144 * k.
+// w has the weights of both planes, map each texel's partition.
+pub fn put_samples<'a>(
+    out: &mut [u16; LANES],
+    n: usize,
+    parts: usize,
+    planes: usize,
+    channel: usize,
+    ends: [Endpoints; 4],
+    w: &'a [u8; WEIGHTS],
+    map: &'a [u8; TEXELS],
+)
+    requires { ⌜ Given n parts planes ends (now w) (now map) ⌝ }
+    ensures { λ _. ⌜ now (out .exit) ≡ samplesIn n (texelSample ends (now (w .entry)) (now (map .entry)) planes channel) (now (out .entry)) ⌝ }
+{
+    let k = starts_of(planes, channel);
+    put_channel(out, 0, n, parts, w, k.r, map, pairs_of(ends, 0));
+    put_channel(out, TEXELS, n, parts, w, k.g, map, pairs_of(ends, 1));
+    put_channel(out, 2 * TEXELS, n, parts, w, k.b, map, pairs_of(ends, 2));
+    put_channel(out, 3 * TEXELS, n, parts, w, k.a, map, pairs_of(ends, 3));
+}
