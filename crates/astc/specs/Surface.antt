@@ -1,4 +1,4 @@
--- A step that also tells C where it led, in an output that may be too short.
+-- A call for a block's channels, which takes options; and a step that also tells C where it led, in an output that may be too short.
 -- Assumes nothing.
 use mathlib.Core.Bool.{cond}
 use mathlib.Core.List.{List}
@@ -6,13 +6,29 @@ use Prim.Native.Nat.{ℕ}
 use lib.Dec.{eqb, ltb}
 use lib.ListN.{getD, length}
 use Rattle.laws.specs.Lists.{put}
-use Rattle.answers.specs.Answers.{outputTooShort}
+use Rattle.answers.specs.Answers.{outputTooShort, badOptions}
+use Rattle.footprint.specs.declared.Footprint.{Footprint}
+use Rattle.block_map.specs.Answer.{answerOf}
+use Rattle.block_channels.specs.BlockChannels.{roomOf, numbersOf, marksIn}
 use Rattle.image_shape.specs.Shapes.{shape, refusalOf}
 use Rattle.image.specs.Image.{stepAnswer, stepOf, stepped}
 use Rattle.image.specs.declared.Cursor.{Cursor}
 use Rattle.image.specs.declared.Step.{Step}
 use Rattle.astc_numbers.specs.Numbers.{ledTo}
 
+-- ---- channels
+-- no option has landed: any other number than 0 is 23, before all other checks
+unfoldable pub channelsAnswer : ℕ → List ℕ → Footprint → ℕ → ℕ → ℕ
+channelsAnswer options s foot places marks = cond (eqb options 0) (answerOf s foot (roomOf places marks)) badOptions
+
+-- what the two outputs hold afterwards
+unfoldable pub channelsIn : ℕ → List ℕ → Footprint → ℕ → List ℕ → List ℕ
+channelsIn options s foot marks out = cond (eqb options 0) (numbersOf s foot marks out) out
+
+unfoldable pub floatsIn : ℕ → List ℕ → Footprint → ℕ → List ℕ → List ℕ
+floatsIn options s foot places floats = cond (eqb options 0) (marksIn s foot places floats) floats
+
+-- ---- a step
 abbrev pub cursor : ℕ → ℕ → ℕ → ℕ → ℕ → Cursor
 cursor width height bw bh next = record { shape = shape width height bw bh; next = next }
 

@@ -1,18 +1,37 @@
--- The ways out of the C function of a step.
+-- The ways out of the C functions of a block's channels and of a step.
 -- Assumes nothing.
 use mathlib.Core.Path.{_≡_, refl, sym}
 use mathlib.Core.List.{List}
 use Prim.Native.Nat.{ℕ, _≤_, _<_}
 use lib.ListN.{getD, length}
-use borrow.Author.Tests.{ne-eqb, lt-ltb, le-ltb}
+use borrow.Author.Tests.{eq-eqb, ne-eqb, lt-ltb, le-ltb}
 use Rattle.laws.specs.Lists.{put}
+use Rattle.footprint.specs.declared.Footprint.{Footprint}
+use Rattle.block_map.specs.Answer.{answerOf}
+use Rattle.block_channels.specs.BlockChannels.{roomOf, numbersOf, marksIn}
 use Rattle.image_shape.specs.Shapes.{refusalOf}
 use Rattle.image.specs.Image.{stepOf, stepped}
 use Rattle.image.specs.StepLaws.{step-answer}
 use Rattle.image.specs.declared.Cursor.{Cursor}
 use Rattle.image.specs.declared.Step.{Step}
-use Rattle.astc.specs.Surface.{stepAnswerIn, steppedIn, ledOf, movedIn}
+use Rattle.astc.specs.Surface.{channelsAnswer, channelsIn, floatsIn, stepAnswerIn, steppedIn, ledOf, movedIn}
 
+-- ---- channels
+module _ (options : ℕ) (s : List ℕ) (foot : Footprint) (out floats : List ℕ) where
+  abbrev Channels : ℕ → List ℕ → List ℕ → Type 0
+  Channels a now marks =
+      (a ≡ channelsAnswer options s foot (length out) (length floats)) × (now ≡ channelsIn options s foot (length floats) out) × (marks ≡ floatsIn options s foot (length out) floats)
+
+  pub optioned : (options ≡ 0 → ⊥) → Channels 23 out floats
+  unfolding channelsAnswer channelsIn floatsIn
+  optioned n = rw (ne-eqb options 0 n) (refl, refl, refl)
+
+  pub answered : (a : ℕ) (now marks : List ℕ) → options ≡ 0
+      → (a ≡ answerOf s foot (roomOf (length out) (length floats))) × (now ≡ numbersOf s foot (length floats) out) × (marks ≡ marksIn s foot (length out) floats) → Channels a now marks
+  unfolding channelsAnswer channelsIn floatsIn
+  answered a now marks z d = rw (eq-eqb options 0 z) d
+
+-- ---- a step
 module _ (d : List ℕ) (c : Cursor) (blocks : ℕ) (out moved : List ℕ) where
   -- what is promised of a step: the answer, the words, and where it led
   abbrev pub Outcome : ℕ → List ℕ → List ℕ → Type 0

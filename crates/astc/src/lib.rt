@@ -7,7 +7,7 @@ ghost use Rattle.block.specs.Block.{paintedOf};
 ghost use Rattle.image_shape.specs.Shapes.{shape, refusalOf};
 ghost use Rattle.image.specs.Image.{imageOf};
 ghost use Rattle.astc_numbers.specs.Numbers.{mapAnswerIn, mapIn};
-ghost use Rattle.astc.specs.Surface.{cursor, stepAnswerIn, steppedIn, movedIn};
+ghost use Rattle.astc.specs.Surface.{channelsAnswer, channelsIn, floatsIn, cursor, stepAnswerIn, steppedIn, movedIn};
 use footprint::Footprint;
 use image::Cursor;
 use image_shape::Shape;
@@ -34,6 +34,29 @@ pub extern "C" fn astc_block_map(block: &[u8], bw: usize, bh: usize, map: &mut [
         height: bh,
     };
     astc_numbers::put_map(block, f, map) as u32
+}
+
+// uint32_t astc_block_channels(uint32_t options, const uint8_t *block, size_t block_len, size_t bw, size_t bh, uint32_t *channels,
+// size_t channels_len, uint8_t *floats, size_t floats_len)
+#[no_mangle]
+pub extern "C" fn astc_block_channels(
+    options: u32,
+    block: &[u8],
+    bw: usize,
+    bh: usize,
+    channels: &mut [u32],
+    floats: &mut [u8],
+) -> u32
+    ensures { λ a. ⌜ (a ≡ channelsAnswer options (now (block .entry)) (footprint bw bh) (length (now (channels .entry))) (length (now (floats .entry)))) × (now (channels .exit) ≡ channelsIn options (now (block .entry)) (footprint bw bh) (length (now (floats .entry))) (now (channels .entry))) × (now (floats .exit) ≡ floatsIn options (now (block .entry)) (footprint bw bh) (length (now (channels .entry))) (now (floats .entry))) ⌝ }
+{
+    if options != 0 {
+        return answers::OPTIONS as u32;
+    }
+    let f = Footprint {
+        width: bw,
+        height: bh,
+    };
+    block_channels::decode_channels(block, f, channels, floats) as u32
 }
 
 // uint32_t astc_decode_image(const uint8_t *data, size_t data_len, size_t width, size_t height, size_t bw, size_t bh, uint32_t *out,

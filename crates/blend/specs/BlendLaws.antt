@@ -193,6 +193,10 @@ pub half-lt : (c : ℕ) → c < 65536 → halfOf c < 32768
 unfolding halfOf
 half-lt c h = omega (arith, bent-sum (c % 2048))
 
+-- the half of an HDR channel has no sign
+pub hdr-half-lt : (v0 v1 w : ℕ) → v0 < 4096 → v1 < 4096 → w ≤ 64 → hdrHalf v0 v1 w < 32768
+hdr-half-lt v0 v1 w h l m = half-lt _ (rw (← (hdr-closed v0 v1 w)) (omega (arith, shares-most v0 v1 w m)))
+
 -- an HDR channel is a byte
 pub hdr-byte : (h : ℕ) → hdrByteOf h ≤ 255
 unfolding hdrByte
@@ -217,7 +221,9 @@ unfolding halfOf
 half-is c a b p q = rw (p, q, bent-sum (c % 2048))
 
 pub hdr-half-is : (v0 v1 w h : ℕ) → v0 < 4096 → v1 < 4096 → w ≤ 64 → h ≡ halfOf ((shares v0 v1 w + 2) / 4) → (h ≡ hdrHalf v0 v1 w) × (h < 32768)
-hdr-half-is v0 v1 w h k l m p = (p ∙ rw (hdr-closed v0 v1 w), rw p (half-lt _ (omega (arith, shares-most v0 v1 w m))))
+hdr-half-is v0 v1 w h k l m p =
+    let e : h ≡ hdrHalf v0 v1 w = p ∙ rw (hdr-closed v0 v1 w) in
+    (e, rw e (hdr-half-lt v0 v1 w k l m))
 
 pub hdr-is : (v0 v1 w h r : ℕ) → h ≡ hdrHalf v0 v1 w → r ≡ hdrByteOf h → r ≡ hdrChannel v0 v1 w
 hdr-is v0 v1 w h r p q = q ∙ rw p

@@ -58,7 +58,7 @@ limit-is : (m : Mark) → limitBy (hdrOf m) ≡ limit m
 limit-is Ldr = refl
 limit-is Hdr = refl
 
-ends-lt : (e : Endpoints) (k : ℕ) → k < 4 → Within e → (firstOf e k < limit (markOf e k)) × (secondOf e k < limit (markOf e k))
+pub ends-lt : (e : Endpoints) (k : ℕ) → k < 4 → Within e → (firstOf e k < limit (markOf e k)) × (secondOf e k < limit (markOf e k))
 ends-lt e zero l h = (h .r0, h .r1)
 ends-lt e (suc zero) l h = (h .g0, h .g1)
 ends-lt e (suc (suc zero)) l h = (h .b0, h .b1)

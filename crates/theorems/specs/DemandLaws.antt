@@ -31,11 +31,16 @@ use Rattle.texels.specs.TexelLaws.{texel-is}
 use Rattle.texels.specs.PaintLaws.{channel-byte, low-lane, high-lane, limit-of}
 use Rattle.footprint.specs.Footprints.{texelsOf}
 use Rattle.footprint.specs.declared.Footprint.{Footprint}
-use Rattle.block_ordinary.specs.Ordinary.{ordinaryWord}
+use Rattle.block_ordinary.specs.Ordinary.{ordinaryWord, ordinarySample}
 use Rattle.block_ordinary.specs.Facts.{Facts, ready}
 use Rattle.block_ordinary.specs.Parts.{ends-within, weights-light}
 use Rattle.block_map.specs.Answer.{answerOf, mapAnswer, blockMap}
 use Rattle.block_map.specs.AnswerLaws.{LegalMap, legal-map}
+use Rattle.channels.specs.Channels.{numberOf, marksOf}
+use Rattle.channels.specs.declared.Samples.{Samples}
+use Rattle.texels_numbers.specs.Numbers.{channelAt}
+use Rattle.texels_numbers.specs.NumberLaws.{fours-same}
+use Rattle.block_channels.specs.BlockChannels.{blockSamples, roomOf, numbersOf, marksIn}
 use Rattle.block.specs.Block.{wordOfParams, blockWord, wordAt, paintedOf}
 use Rattle.theorems.specs.Demands.{In, WidestRange, channelIn, infilled, endsAt, Bounded}
 
@@ -149,6 +154,17 @@ word-same v w foot t z b =
     ∙ ap (λ (q : Params). ordinaryWord q w foot t) (b .params)
     ∙ sym (block-word w foot t y)
 
+sample-same : (p : Params) (v w : ℕ) (foot : Footprint) (t k : ℕ) → endsField p v ≡ endsField p w → weightsField p v ≡ weightsField p w → ordinarySample p v foot t k ≡ ordinarySample p w foot t k
+unfolding ordinarySample
+sample-same p v w foot t k e f = rw (e, f)
+
+samples-same : (v w : ℕ) (foot : Footprint) (t : ℕ) → paramsOf v foot .answer ≡ 0 → SameParams v w foot → blockSamples v foot t ≡ blockSamples w foot t
+unfolding blockSamples
+samples-same v w foot t z b =
+    let p = paramsOf v foot in
+    let same : (k : ℕ) → ordinarySample p v foot t k ≡ ordinarySample p w foot t k = λ k. sample-same p v w foot t k (b .ends) (b .weights) in
+    rw (← (b .params), eq-eqb (p .answer) 0 z, same 0, same 1, same 2, same 3)
+
 module _ (s s′ : List ℕ) (foot : Footprint) (l : LegalMap s foot) (h : length s′ ≡ 16) (b : SameParams (bytes 16 s) (bytes 16 s′) foot) where
   answer-same : (room : ℕ) → answerOf s foot room ≡ answerOf s′ foot room
   unfolding answerOf
@@ -167,6 +183,20 @@ module _ (s s′ : List ℕ) (foot : Footprint) (l : LegalMap s foot) (h : lengt
       rw (answer-same (length out))
       (ap (λ (x : List ℕ). cond (ltb (answerOf s′ foot (length out)) 20) x out)
       (put-same _ _ 0 (texelsOf foot) out (λ k x y. word-same (bytes 16 s) (bytes 16 s′) foot k legal-answer b)))
+
+  numbers-same : (marks : ℕ) (out : List ℕ) → numbersOf s foot marks out ≡ numbersOf s′ foot marks out
+  unfolding numbersOf
+  numbers-same marks out =
+      rw (answer-same (roomOf (length out) marks))
+      (ap (λ (x : List ℕ). cond (ltb (answerOf s′ foot (roomOf (length out) marks)) 20) x out)
+      (fours-same _ _ (texelsOf foot) out (λ t k x y. ap (λ (z : Samples). numberOf (channelAt z k)) (samples-same (bytes 16 s) (bytes 16 s′) foot t legal-answer b))))
+
+  marks-same : (places : ℕ) (floats : List ℕ) → marksIn s foot places floats ≡ marksIn s′ foot places floats
+  unfolding marksIn
+  marks-same places floats =
+      rw (answer-same (roomOf places (length floats)))
+      (ap (λ (x : List ℕ). cond (ltb (answerOf s′ foot (roomOf places (length floats))) 20) x floats)
+      (put-same _ _ 0 (texelsOf foot) floats (λ t x y. ap marksOf (samples-same (bytes 16 s) (bytes 16 s′) foot t legal-answer b))))
 
 -- the bits that a map names are those of its fields
 mapped-bits : (m : BlockMap) (v w : ℕ) → ((i k : ℕ) → In m i k → bitsAt v k 1 ≡ bitsAt w k 1) → (k : ℕ) → Mapped m k → bitsAt v k 1 ≡ bitsAt w k 1
@@ -190,5 +220,5 @@ demand-3 s foot z =
       channels = channels-within s foot a k;
       local = λ s′ h same.
           let b : SameParams v (bytes 16 s′) foot = local v (bytes 16 s′) foot a (mapped-bits m v (bytes 16 s′) (rw (l .map) at same)) in
-          record { answer = answer-same s s′ foot l h b; map = map-same s s′ foot l h b; words = painted-same s s′ foot l h b };
+          record { answer = answer-same s s′ foot l h b; map = map-same s s′ foot l h b; words = painted-same s s′ foot l h b; numbers = numbers-same s s′ foot l h b; marks = marks-same s s′ foot l h b };
     }

@@ -18,6 +18,7 @@ use Rattle.footprint.specs.declared.Footprint.{Footprint}
 use Rattle.block_ordinary.specs.Ordinary.{endsOf, weightsIn, partitionsIn}
 use Rattle.block_map.specs.Answer.{answerOf, blockMap}
 use Rattle.block.specs.Block.{wordAt, paintedOf}
+use Rattle.block_channels.specs.BlockChannels.{numbersOf, marksIn}
 
 -- ---- the fields of a map: 0 is the low configuration, 1 the endpoints, 2 the extra field, 3 the weights
 abbrev pub startOf : BlockMap → ℕ → ℕ
@@ -63,6 +64,8 @@ pub record Same (s s′ : List ℕ) (foot : Footprint) : Type 0 where
   pub answer : (room : ℕ) → answerOf s foot room ≡ answerOf s′ foot room
   pub map : blockMap s foot ≡ blockMap s′ foot
   pub words : (out : List ℕ) → paintedOf s foot out ≡ paintedOf s′ foot out
+  pub numbers : (marks : ℕ) (out : List ℕ) → numbersOf s foot marks out ≡ numbersOf s′ foot marks out
+  pub marks : (places : ℕ) (floats : List ℕ) → marksIn s foot places floats ≡ marksIn s′ foot places floats
 
 -- ---- the demand
 pub record Bounded (s : List ℕ) (foot : Footprint) : Type 0 where

@@ -5,3 +5,4 @@ pub mod Values
 pub mod Steps
 pub mod Tight
 pub mod TightImage
+pub mod Reduced

@@ -51,17 +51,28 @@ use Rattle.weights_grid.specs.declared.Grid.{Grid}
 use Rattle.weights_infill.specs.Infill.{infillOf}
 use Rattle.weights.specs.Weights.{weightsOf}
 use Rattle.partition.specs.Partition.{partitionAt}
-use Rattle.blend.specs.Blend.{ldrChannel, hdrChannel, wordOf}
-use Rattle.texels.specs.Texels.{texelWord}
+use Rattle.blend.specs.Blend.{ldrChannel, hdrHalf, hdrChannel, wordOf}
+use Rattle.channels.specs.Channels.{texelOf, numberOf, marksOf, reducedBy}
+use Rattle.channels.specs.declared.Channel.{Channel}
+use Rattle.channels.specs.declared.Rule.{Rule}
+use Rattle.channels.specs.declared.Sample.{Sample}
+use Rattle.channels.specs.declared.Samples.{Samples}
+use Rattle.channels.specs.declared.Texel.{Texel}
+use Rattle.lanes.specs.declared.Form.{Form}
+use Rattle.texels.specs.Texels.{texelWord, texelSample}
+use Rattle.texels.specs.Samples.{samplesIn}
+use Rattle.texels_numbers.specs.Numbers.{texelIn, numbersFrom, marksFrom, numbersIn}
 use Rattle.texels.specs.Kinds.{startsOf, Ahead, eitherOf, anyOf}
 use Rattle.texels.specs.declared.Starts.{Starts}
-use Rattle.block_void.specs.Void.{voidAnswer, voidWord}
+use Rattle.block_void.specs.Void.{voidAnswer, voidWord, voidSamples}
 use Rattle.block_map.specs.Answer.{answerOf, blockMap}
-use Rattle.block_ordinary.specs.Ordinary.{lanesOf}
+use Rattle.block_ordinary.specs.Ordinary.{lanesIn}
 use Rattle.block_tables.specs.Tables.{theTables}
 use Rattle.block_tables.specs.declared.Tables.{Tables}
 use Rattle.block.specs.Block.{outcomeOf, paintedOf}
 use Rattle.block.specs.declared.Outcome.{Outcome}
+use Rattle.block_channels.specs.BlockChannels.{roomOf, numbersOf, marksIn, texelAnswered}
+use Rattle.block_channels.specs.declared.Answered.{Answered}
 
 -- ---- what is stated
 -- a promise on one result
@@ -82,6 +93,13 @@ TightBlock P = (r s : Block) → Words r → Words s → P r → P s → r ≡ s
 -- ---- why it holds
 pub one : (A : Type 0) (x : A) → Tight A (λ r. r ≡ x)
 one A x r s p q = p ∙ sym q
+
+-- on an answer and two outputs
+abbrev pub TightThree : (A B C : Type 0) → (A → B → C → Type 0) → Type 0
+TightThree A B C P = (r s : A) (x y : B) (z w : C) → P r x z → P s y w → (r ≡ s) × (x ≡ y) × (z ≡ w)
+
+pub three : (A B C : Type 0) (a : A) (b : B) (c : C) → TightThree A B C (λ r x z. (r ≡ a) × (x ≡ b) × (z ≡ c))
+three A B C a b c r s x y z w p q = (p .0 ∙ sym (q .0), p .1 ∙ sym (q .1), p .2 ∙ sym (q .2))
 
 pub both : (A B : Type 0) (a : A) (b : B) → TightBoth A B (λ r x. (r ≡ a) × (x ≡ b))
 both A B a b r s x y p q = (p .0 ∙ sym (q .0), p .1 ∙ sym (q .1))
@@ -310,16 +328,55 @@ void-answer b = one ℕ (voidAnswer (valueOf b))
 pub block-map : (s : List ℕ) (f : Footprint) → Tight BlockMap (λ r. r ≡ blockMap s f)
 block-map s f = one BlockMap (blockMap s f)
 
-pub decode-ordinary : (b : Block) (f : Footprint) (h : List ℕ)
-    → TightBoth ℕ (List ℕ) (λ a lanes. (a ≡ answer (fieldsOf (valueOf b)) f) × (lanes ≡ lanesOf (valueOf b) f h))
-decode-ordinary b f h = both ℕ (List ℕ) (answer (fieldsOf (valueOf b)) f) (lanesOf (valueOf b) f h)
+pub decode-ordinary : (b : Block) (f : Footprint) (h : List ℕ) (form : Form)
+    → TightBoth ℕ (List ℕ) (λ a lanes. (a ≡ answer (fieldsOf (valueOf b)) f) × (lanes ≡ lanesIn form (valueOf b) f h))
+decode-ordinary b f h form = both ℕ (List ℕ) (answer (fieldsOf (valueOf b)) f) (lanesIn form (valueOf b) f h)
 
 pub make-tables : Tight Tables (λ r. r ≡ theTables)
 make-tables = one Tables theTables
 
-pub decode-lanes : (b : Block) (f : Footprint) (h : List ℕ)
-    → TightBoth Outcome (List ℕ) (λ r lanes. (r ≡ outcomeOf (valueOf b) f) × (lanes ≡ lanesOf (valueOf b) f h))
-decode-lanes b f h = both Outcome (List ℕ) (outcomeOf (valueOf b) f) (lanesOf (valueOf b) f h)
+pub decode-lanes : (b : Block) (f : Footprint) (h : List ℕ) (form : Form)
+    → TightBoth Outcome (List ℕ) (λ r lanes. (r ≡ outcomeOf (valueOf b) f) × (lanes ≡ lanesIn form (valueOf b) f h))
+decode-lanes b f h form = both Outcome (List ℕ) (outcomeOf (valueOf b) f) (lanesIn form (valueOf b) f h)
 
 pub decode-astc-block : (s : List ℕ) (f : Footprint) (o : List ℕ) → TightBoth ℕ (List ℕ) (λ a out. (a ≡ answerOf s f (length o)) × (out ≡ paintedOf s f o))
 decode-astc-block s f o = both ℕ (List ℕ) (answerOf s f (length o)) (paintedOf s f o)
+
+-- ---- channels
+pub texel-of : (s : Samples) → Tight Texel (λ r. r ≡ texelOf s)
+texel-of s = one Texel (texelOf s)
+
+pub number-of : (s : Sample) → Tight ℕ (λ r. r ≡ numberOf s)
+number-of s = one ℕ (numberOf s)
+
+pub marks-of : (s : Samples) → Tight ℕ (λ r. r ≡ marksOf s)
+marks-of s = one ℕ (marksOf s)
+
+pub reduced : (c : Channel) (rule : Rule) → Tight ℕ (λ r. r ≡ reducedBy rule c)
+reduced c rule = one ℕ (reducedBy rule c)
+
+pub select-half : (v0 v1 weight : ℕ) → Tight ℕ (λ r. (r ≡ hdrHalf v0 v1 weight) × (r < 32768))
+select-half v0 v1 weight r s p q = p .0 ∙ sym (q .0)
+
+pub put-samples : (n planes channel : ℕ) (ends : List Endpoints) (w map s : List ℕ) → Tight (List ℕ) (λ out. out ≡ samplesIn n (texelSample ends w map planes channel) s)
+put-samples n planes channel ends w map s = one (List ℕ) (samplesIn n (texelSample ends w map planes channel) s)
+
+pub samples-at : (lanes : List ℕ) (i : ℕ) → Tight Samples (λ r. r ≡ texelIn lanes i)
+samples-at lanes i = one Samples (texelIn lanes i)
+
+module _ (n : ℕ) (o f : List ℕ) where
+  pub put-texels : (lanes : List ℕ) → TightBoth (List ℕ) (List ℕ) (λ out floats. (out ≡ put (numbersFrom lanes) 0 (4 * n) o) × (floats ≡ put (marksFrom lanes) 0 n f))
+  put-texels lanes = both (List ℕ) (List ℕ) (put (numbersFrom lanes) 0 (4 * n) o) (put (marksFrom lanes) 0 n f)
+
+  pub fill-texels : (s : Samples) → TightBoth (List ℕ) (List ℕ) (λ out floats. (out ≡ put (numbersIn s) 0 (4 * n) o) × (floats ≡ put (λ (i : ℕ). marksOf s) 0 n f))
+  fill-texels s = both (List ℕ) (List ℕ) (put (numbersIn s) 0 (4 * n) o) (put (λ (i : ℕ). marksOf s) 0 n f)
+
+pub void-samples : (b : Block) → Tight Samples (λ r. r ≡ voidSamples (valueOf b))
+void-samples b = one Samples (voidSamples (valueOf b))
+
+pub decode-channels : (s : List ℕ) (f : Footprint) (o m : List ℕ)
+    → TightThree ℕ (List ℕ) (List ℕ) (λ a out floats. (a ≡ answerOf s f (roomOf (length o) (length m))) × (out ≡ numbersOf s f (length m) o) × (floats ≡ marksIn s f (length o) m))
+decode-channels s f o m = three ℕ (List ℕ) (List ℕ) (answerOf s f (roomOf (length o) (length m))) (numbersOf s f (length m) o) (marksIn s f (length o) m)
+
+pub texel-channels : (s : List ℕ) (f : Footprint) (t : ℕ) → Tight Answered (λ r. r ≡ texelAnswered s f t)
+texel-channels s f t = one Answered (texelAnswered s f t)

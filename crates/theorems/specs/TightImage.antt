@@ -18,8 +18,8 @@ use Rattle.image.specs.Image.{imageOf, stepOf, stepped}
 use Rattle.image.specs.declared.Cursor.{Cursor}
 use Rattle.image.specs.declared.Step.{Step}
 use Rattle.astc_numbers.specs.Numbers.{mapAnswerIn, mapIn, ledTo}
-use Rattle.astc.specs.Surface.{cursor, stepAnswerIn, steppedIn, movedIn}
-use Rattle.theorems.specs.Tight.{Tight, TightBoth, one, both}
+use Rattle.astc.specs.Surface.{channelsAnswer, channelsIn, floatsIn, cursor, stepAnswerIn, steppedIn, movedIn}
+use Rattle.theorems.specs.Tight.{Tight, TightBoth, TightThree, one, both, three}
 
 -- ---- image
 pub along : (n side : ℕ) → Tight ℕ (λ r. (r ≡ alongOf n side) × (r ≤ 4107))
@@ -63,6 +63,11 @@ module _ (bw bh : ℕ) where
 
     pub astc-block-map : TightBoth ℕ (List ℕ) (λ a map. (a ≡ mapAnswerIn (blockMap s (footprint bw bh)) (length o)) × (map ≡ mapIn (blockMap s (footprint bw bh)) o))
     astc-block-map = put-map s (footprint bw bh) o
+
+    pub astc-block-channels : (options : ℕ) (m : List ℕ)
+        → TightThree ℕ (List ℕ) (List ℕ) (λ a out floats. (a ≡ channelsAnswer options s (footprint bw bh) (length o) (length m)) × (out ≡ channelsIn options s (footprint bw bh) (length m) o) × (floats ≡ floatsIn options s (footprint bw bh) (length o) m))
+    astc-block-channels options m =
+        three ℕ (List ℕ) (List ℕ) (channelsAnswer options s (footprint bw bh) (length o) (length m)) (channelsIn options s (footprint bw bh) (length m) o) (floatsIn options s (footprint bw bh) (length o) m)
 
   module _ (width height : ℕ) (d : List ℕ) (o : List ℕ) where
     pub astc-decode-image : TightBoth ℕ (List ℕ) (λ a out. (a ≡ refusalOf (shape width height bw bh) (length d) (length o)) × (out ≡ imageOf d (shape width height bw bh) o))

@@ -1,0 +1,2 @@
+pub mod BlockChannels
+pub mod ChannelLaws
