@@ -1,4 +1,4 @@
-/* A proved ASTC decoder: blocks and images of 2D ASTC texture data to 32-bit words.
+/* A proved ASTC decoder: blocks and images of 2D ASTC texture data to 32-bit words, and blocks to bytes and floats.
  *
  * Every function takes unchecked input, always ends, and answers by number. All that a caller owes is that each pointer has as many
  * places as the length after it says (a length of 0 needs none), and that an output overlaps nothing else that is passed.
@@ -22,8 +22,8 @@
 extern "C" {
 #endif
 
-/* The answers, in the order in which they are looked for: a block's 20, 21, 22, then 1, then 10 to 16; an image's 21, 30, 31, 22;
- * a step's those of the image, then 33 and 34. */
+/* The answers, in the order in which they are looked for: 23, where a function takes options; a block's 20, 21, 22, then 1, then 10
+ * to 16; an image's 21, 30, 31, 22; a step's those of the image, then 33 and 34. */
 enum astc_answer {
     ASTC_LEGAL = 0,                /* a legal block, painted; an image or a step that was accepted */
     ASTC_VOID_EXTENT = 1,          /* a void-extent block, painted in its one colour */
@@ -37,6 +37,7 @@ enum astc_answer {
     ASTC_BLOCK_LENGTH = 20,        /* the block is not 16 bytes */
     ASTC_FOOTPRINT = 21,           /* the footprint is not one of the fourteen */
     ASTC_OUTPUT_TOO_SHORT = 22,    /* an output has too few places */
+    ASTC_OPTIONS = 23,             /* options that the function does not take */
     ASTC_IMAGE_SIDE = 30,          /* a side of the image is 0 or over 4096 */
     ASTC_DATA_LENGTH = 31,         /* the data is not exactly 16 bytes a block */
     ASTC_NO_BLOCKS = 33,           /* a step of 0 blocks */
@@ -51,6 +52,19 @@ uint32_t astc_decode_block(const uint8_t *block, size_t block_len, size_t bw, si
  * and length, in bits, of low configuration, endpoints, extra field and weights. All nine are 0 for an answer of 1 or 10 to 16. For
  * 20, 21 and 22 (fewer than nine places) map is as it was. No bit outside the four fields changes a legal block's words. */
 uint32_t astc_block_map(const uint8_t *block, size_t block_len, size_t bw, size_t bh, uint32_t *map, size_t map_len);
+
+/* Writes the channels of a block's texels, and gives the block's answer. Texel i has four numbers in channels, red, green, blue and
+ * alpha, from place 4 * i on, and a byte in floats. A number is 0 to 255, or the 32 bits of an IEEE float where the texel's byte has
+ * the channel's bit: 1 for red, 2 for green, 4 for blue, 8 for alpha; its other bits are 0. Bytes are those of the texel's word.
+ *
+ * In a block with endpoints a channel is a float where its pair of endpoints is HDR. The float equals the half that ASTC blends,
+ * exactly, with the largest finite half, 65504, in place of infinity and NaN. In a void-extent block all four channels are floats, or
+ * none: its halves as they are, infinities, minus zero and subnormals too, and a NaN as 0x7fc00000 or, with its sign, 0xffc00000.
+ * Magenta is in bytes.
+ *
+ * options is 0; any other number answers 23. 22 is for fewer than 4 * bw * bh places in channels or fewer than bw * bh in floats. For
+ * 23, 20, 21 and 22 both outputs are as they were; places after a block's texels never change. */
+uint32_t astc_block_channels(uint32_t options, const uint8_t *block, size_t block_len, size_t bw, size_t bh, uint32_t *channels, size_t channels_len, uint8_t *floats, size_t floats_len);
 
 /* Paints the first width * height words of out with an image of ceil(width / bw) * ceil(height / bh) blocks, edge blocks clipped, and
  * answers 0; blocks that break a rule are magenta. For 21, 30, 31 and 22 out is as it was. */

@@ -39,8 +39,10 @@ answers! {
     BlockLength = 20,
     /// The footprint is not one of the fourteen. A [`Footprint`](crate::Footprint) never gives it.
     Footprint = 21,
-    /// The output is shorter than the words to paint, and is as it was.
+    /// The output is shorter than what there is to write, and is as it was.
     OutputTooShort = 22,
+    /// Options that the C function does not take; the output is as it was. The functions of this crate never give it.
+    Options = 23,
     /// A side of the image is 0 or over 4,096; the output is as it was.
     ImageSide = 30,
     /// The data is not exactly 16 bytes a block; the output is as it was.
