@@ -25,6 +25,21 @@ pub fn decode_image(
     surface::decode_image(data, width, height, footprint, out)
 }
 
+/// Why an image with room for so many pixels is refused, if it is.
+pub(crate) fn refusal(
+    data: &[u8],
+    width: usize,
+    height: usize,
+    footprint: Footprint,
+    room: usize,
+) -> Option<Answer> {
+    // the archive looks for room last, and refuses every image that has none: its sides are at most 4,096 then
+    match surface::decode_image(data, width, height, footprint, &mut []) {
+        Answer::OutputTooShort if room >= width * height => None,
+        refusal => Some(refusal),
+    }
+}
+
 /// An image on its way: its size, its footprint, and the next block to paint.
 #[derive(Clone, Copy, Debug, PartialEq, Eq, Hash)]
 pub struct Cursor {

@@ -3,6 +3,9 @@
 //! Every function takes any slices and sizes, always ends, and answers by an [`Answer`]. A word holds blue in its bits 0
 //! to 7, green in 8 to 15, red in 16 to 23 and alpha in 24 to 31. There is no state, no allocation and no global.
 //!
+//! Words end at 1.0. [`block_channels`] and [`image_channels`] give what lies above it too: each channel as a byte or, where
+//! the block is HDR, as an `f32`.
+//!
 //! ```
 //! use astc::{decode_block, Answer, Footprint};
 //! let block = [0x42, 0, 0, 0xfe, 1, 0, 0, 0, 0, 0, 0, 0, 0, 0, 0, 0xe0];
@@ -20,6 +23,7 @@ extern crate std;
 mod answer;
 #[cfg(feature = "std")]
 mod bands;
+mod channels;
 mod footprint;
 mod image;
 pub mod raw;
@@ -27,7 +31,8 @@ mod surface;
 
 pub use answer::Answer;
 #[cfg(feature = "std")]
-pub use bands::decode_image_by_threads;
+pub use bands::{decode_image_by_threads, image_channels_by_threads};
+pub use channels::{block_channels, image_channels, Channel};
 pub use footprint::Footprint;
 pub use image::{decode_image, Cursor, Step};
 

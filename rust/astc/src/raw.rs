@@ -25,6 +25,19 @@ extern "C" {
         map_len: usize,
     ) -> u32;
 
+    /// Writes the channels of a block's texels, four numbers a texel, and which of them are floats.
+    pub fn astc_block_channels(
+        options: u32,
+        block: *const u8,
+        block_len: usize,
+        bw: usize,
+        bh: usize,
+        channels: *mut u32,
+        channels_len: usize,
+        floats: *mut u8,
+        floats_len: usize,
+    ) -> u32;
+
     /// Paints an image.
     pub fn astc_decode_image(
         data: *const u8,

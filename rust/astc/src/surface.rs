@@ -1,6 +1,8 @@
-//! The archive's four functions, over slices. Nothing else in this crate calls them.
+//! The archive's five functions, over slices. Nothing else in this crate calls them.
 
-use crate::raw::{astc_block_map, astc_decode_block, astc_decode_image, astc_image_step};
+use crate::raw::{
+    astc_block_channels, astc_block_map, astc_decode_block, astc_decode_image, astc_image_step,
+};
 use crate::{Answer, Footprint};
 
 /// The archive is proved to answer by these numbers alone.
@@ -32,6 +34,28 @@ pub fn block_map(block: &[u8], f: Footprint, map: &mut [u32; 9]) -> Answer {
             f.height(),
             map.as_mut_ptr(),
             map.len(),
+        )
+    })
+}
+
+pub fn block_channels(
+    block: &[u8],
+    f: Footprint,
+    channels: &mut [u32],
+    floats: &mut [u8],
+) -> Answer {
+    // SAFETY: each pointer has as many places as the length after it says, and only `channels` and `floats` are written.
+    answer(unsafe {
+        astc_block_channels(
+            0,
+            block.as_ptr(),
+            block.len(),
+            f.width(),
+            f.height(),
+            channels.as_mut_ptr(),
+            channels.len(),
+            floats.as_mut_ptr(),
+            floats.len(),
         )
     })
 }

@@ -1,38 +1,28 @@
-//! An image by several threads equals the image by one.
+//! An image by several threads equals the image by one, in words and in channels.
 #![cfg(feature = "std")]
 
-use astc::{decode_image, decode_image_by_threads, Answer, Footprint};
+use astc::{
+    decode_image, decode_image_by_threads, image_channels, image_channels_by_threads, Answer,
+    Channel, Footprint,
+};
 
-/// Bytes of all kinds of blocks, by a fixed rule.
-fn data(blocks: usize) -> Vec<u8> {
-    let mut state = 1u64;
-    let mut data = vec![0; 16 * blocks];
-    for (i, byte) in data.iter_mut().enumerate() {
-        state = state
-            .wrapping_mul(6364136223846793005)
-            .wrapping_add(1442695040888963407);
-        *byte = match (i % 16, i / 16 % 4) {
-            (0, 0 | 1) => 0x42,
-            (1, 0 | 1) => 0,
-            (0, 2) => 0xfc,
-            (1, 2) => 0xfd,
-            _ => (state >> 33) as u8,
-        };
-    }
-    data
-}
+mod common;
+use common::{bits, blocks, Random};
+
+const SIZES: [(usize, usize); 4] = [(1, 1), (29, 23), (64, 64), (3, 200)];
+const THREADS: [usize; 8] = [0, 1, 2, 3, 4, 5, 7, 1000];
 
 #[test]
 fn any_number_of_threads_gives_the_same_image() {
     for footprint in Footprint::ALL {
-        for (width, height) in [(1, 1), (29, 23), (64, 64), (3, 200)] {
-            let data = data(footprint.blocks(width, height));
+        for (width, height) in SIZES {
+            let data = blocks(&mut Random::new(1), footprint.blocks(width, height));
             let mut whole = vec![7; width * height + 3];
             assert_eq!(
                 decode_image(&data, width, height, footprint, &mut whole),
                 Answer::Legal
             );
-            for threads in [0, 1, 2, 3, 7, 1000] {
+            for threads in THREADS {
                 let mut out = vec![7; width * height + 3];
                 let answer =
                     decode_image_by_threads(&data, width, height, footprint, &mut out, threads);
@@ -47,13 +37,42 @@ fn any_number_of_threads_gives_the_same_image() {
 }
 
 #[test]
+fn any_number_of_threads_gives_the_same_channels() {
+    let before = [Channel::Float(-7.0); 4];
+    for footprint in Footprint::ALL {
+        for (width, height) in SIZES {
+            let data = blocks(&mut Random::new(2), footprint.blocks(width, height));
+            let mut whole = vec![before; width * height + 3];
+            assert_eq!(
+                image_channels(&data, width, height, footprint, &mut whole),
+                Answer::Legal
+            );
+            for threads in THREADS {
+                let mut out = vec![before; width * height + 3];
+                let answer =
+                    image_channels_by_threads(&data, width, height, footprint, &mut out, threads);
+                assert_eq!(answer, Answer::Legal);
+                assert!(
+                    out.iter().map(bits).eq(whole.iter().map(bits)),
+                    "{footprint:?} {width}x{height}, {threads} threads"
+                );
+            }
+        }
+    }
+}
+
+#[test]
 fn a_refusal_is_that_of_one_thread() {
     let footprint = Footprint::ALL[0];
+    let before = [Channel::Byte(7); 4];
     let calls = [
         (0, 4, 16, 16),
         (4, 5000, 16, 16),
+        (usize::MAX, usize::MAX, 16, 16),
         (4, 4, 15, 16),
         (4, 4, 16, 15),
+        (4, 5000, 15, 15),
+        (4, 4, 15, 15),
     ];
     for (width, height, bytes, room) in calls {
         let data = vec![0; bytes];
@@ -65,5 +84,11 @@ fn a_refusal_is_that_of_one_thread() {
         );
         assert!(!answer.is_painted());
         assert!(one == two && two == vec![7; room]);
+        let mut channels = vec![before; room];
+        assert_eq!(
+            answer,
+            image_channels_by_threads(&data, width, height, footprint, &mut channels, 2)
+        );
+        assert!(channels == vec![before; room]);
     }
 }
