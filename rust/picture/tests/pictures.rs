@@ -1,21 +1,19 @@
-//! The stored .astc files, which astcenc made: every word equals the original's, and astcenc's own decoding to within 1.
+//! The stored .astc files, which astcenc made: every word equals the original's, and of the LDR ones astcenc's own decoding to within 1.
 
+use astc::Footprint;
 use picture::container::{self, Container};
-use std::path::{Path, PathBuf};
-use std::process::Command;
-use std::{env, fs};
+use std::fs;
+use std::path::PathBuf;
 
-/// The stored files, one for each footprint.
+mod common;
+use common::{decoded_by_astcenc, stored};
+
+/// The stored files of the LDR drawing, one for each footprint.
 fn files() -> Vec<PathBuf> {
-    let folder = Path::new(env!("CARGO_MANIFEST_DIR")).join("../../pictures");
-    let mut files: Vec<PathBuf> = fs::read_dir(folder)
-        .expect("the pictures are stored")
-        .map(|entry| entry.unwrap().path())
-        .filter(|path| path.extension().is_some_and(|e| e == "astc"))
-        .collect();
-    files.sort();
-    assert_eq!(files.len(), 14);
-    files
+    Footprint::ALL
+        .iter()
+        .map(|f| stored(&format!("{}x{}.astc", f.width(), f.height())))
+        .collect()
 }
 
 fn decode(c: &Container) -> Vec<u32> {
@@ -27,7 +25,7 @@ fn decode(c: &Container) -> Vec<u32> {
 
 #[test]
 fn every_word_is_the_originals() {
-    for path in files() {
+    for path in files().into_iter().chain([stored("hdr-6x6.astc")]) {
         let file = fs::read(&path).unwrap();
         let c = container::read(&file).unwrap();
         let (bw, bh) = (c.footprint.width(), c.footprint.height());
@@ -61,26 +59,13 @@ fn tga(file: &[u8], width: usize, height: usize) -> Vec<u32> {
 
 #[test]
 fn astcenc_agrees_to_within_one() {
-    if Command::new("astcenc").arg("-version").output().is_err() {
-        println!("not compared with astcenc: the command is not installed");
-        return;
-    }
     for path in files() {
         let file = fs::read(&path).unwrap();
         let c = container::read(&file).unwrap();
-        let out = env::temp_dir().join(format!(
-            "{}-{}.tga",
-            path.file_stem().unwrap().to_str().unwrap(),
-            std::process::id()
-        ));
-        let status = Command::new("astcenc")
-            .arg("-dl")
-            .args([&path, &out])
-            .arg("-silent")
-            .status();
-        assert!(status.unwrap().success());
-        let theirs = tga(&fs::read(&out).unwrap(), c.width, c.height);
-        fs::remove_file(&out).unwrap();
+        let Some(theirs) = decoded_by_astcenc(&path, "-dl", "tga") else {
+            return;
+        };
+        let theirs = tga(&theirs, c.width, c.height);
         for (ours, theirs) in decode(&c).iter().zip(&theirs) {
             let pairs = ours.to_le_bytes().into_iter().zip(theirs.to_le_bytes());
             for (a, b) in pairs {
