@@ -1,7 +1,7 @@
 //! Sources of blocks: what decides a block's answer, held fixed; and blocks of several kinds.
 
 use crate::random::Random;
-use crate::{answer, Layout};
+use crate::{answer, Layout, HDR_MODES};
 use std::collections::BTreeMap;
 
 /// The bits that decide a block's answer, with a value: first bits, partitions, base, and classes of endpoint modes.
@@ -121,6 +121,20 @@ pub fn likely(random: &mut Random, bw: usize, bh: usize) -> [u8; 16] {
     block
 }
 
+/// A block of a configuration, drawn some times until its partitions are all HDR: every class of modes has HDR ones.
+fn hdr(random: &mut Random, legal: &Legal) -> [u8; 16] {
+    let configuration = legal.pick(random);
+    let mut block = configuration.fill(random);
+    for _ in 0..16 {
+        let modes = Layout::of(&block).modes(&block);
+        if modes.iter().all(|mode| HDR_MODES.contains(mode)) {
+            break;
+        }
+        block = configuration.fill(random);
+    }
+    block
+}
+
 /// A block with the given first eleven bits, and random ones after them.
 pub fn with_first_bits(first: u16, random: &mut Random) -> [u8; 16] {
     let mut block = random.block();
@@ -160,9 +174,11 @@ pub enum Kind {
     Legal,
     Damaged,
     Void,
+    Hdr,
 }
 
 impl Kind {
+    /// The kinds of a run for words and maps.
     pub const ALL: [Kind; 6] = [
         Kind::Any,
         Kind::Sparse,
@@ -177,6 +193,11 @@ impl Kind {
         *Kind::ALL.get((number % 8) as usize).unwrap_or(&Kind::Legal)
     }
 
+    /// The same where channels are asked for: of the three legal ones two are mostly HDR.
+    pub fn for_channels(number: u64) -> Kind {
+        *Kind::ALL.get((number % 8) as usize).unwrap_or(&Kind::Hdr)
+    }
+
     pub fn name(self) -> &'static str {
         match self {
             Kind::Any => "any bits",
@@ -185,6 +206,7 @@ impl Kind {
             Kind::Legal => "legal, spread over all configurations",
             Kind::Damaged => "legal with one bit changed",
             Kind::Void => "void, with special halves",
+            Kind::Hdr => "legal, mostly HDR in all partitions",
         }
     }
 
@@ -200,6 +222,7 @@ impl Kind {
                 flipped(block, random.below(128))
             }
             Kind::Void => void(random),
+            Kind::Hdr => hdr(random, legal),
         }
     }
 }
@@ -228,6 +251,7 @@ mod tests {
                 let mut of =
                     |kind: Kind| answer(&kind.block(&mut random, (bw, bh), &legal), bw, bh);
                 assert_eq!(of(Kind::Legal), 0);
+                assert_eq!(of(Kind::Hdr), 0);
                 assert_eq!(of(Kind::Void), 1);
             }
         }

@@ -1,10 +1,12 @@
-//! Document 01's rules on blocks and images, written a second time, since the original judges neither; and seeded sources of
-//! blocks.
+//! Document 01's rules on blocks and images, written a second time, since the original judges neither; the rules on channels, which
+//! it does not have; and seeded sources of blocks.
 
 pub mod blocks;
+mod channels;
 mod image;
 pub mod random;
 mod rules;
 
+pub use channels::*;
 pub use image::Shape;
 pub use rules::*;
