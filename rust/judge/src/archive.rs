@@ -1,6 +1,8 @@
-//! The four functions of the archive, over slices.
+//! The functions of the archive, over slices.
 
-use astc::raw::{astc_block_map, astc_decode_block, astc_decode_image, astc_image_step};
+use astc::raw::{
+    astc_block_channels, astc_block_map, astc_decode_block, astc_decode_image, astc_image_step,
+};
 use model::Shape;
 
 /// Paints a block; the answer.
@@ -29,6 +31,31 @@ pub fn block_map(block: &[u8], bw: usize, bh: usize, map: &mut [u32]) -> u32 {
             bh,
             map.as_mut_ptr(),
             map.len(),
+        )
+    }
+}
+
+/// Writes the channels of a block, and which of them are floats; the answer.
+pub fn block_channels(
+    options: u32,
+    block: &[u8],
+    bw: usize,
+    bh: usize,
+    channels: &mut [u32],
+    floats: &mut [u8],
+) -> u32 {
+    // SAFETY: the three parts are as long as they are said to be and lie apart, and only `channels` and `floats` are written.
+    unsafe {
+        astc_block_channels(
+            options,
+            block.as_ptr(),
+            block.len(),
+            bw,
+            bh,
+            channels.as_mut_ptr(),
+            channels.len(),
+            floats.as_mut_ptr(),
+            floats.len(),
         )
     }
 }

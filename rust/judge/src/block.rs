@@ -37,7 +37,7 @@ impl<'a> Call<'a> {
     }
 
     /// The block of a call that no size refuses.
-    fn sample(self) -> Sample {
+    pub(crate) fn sample(self) -> Sample {
         let block = self.block.try_into().expect("20 refuses other lengths");
         Sample::new(block, (self.bw, self.bh))
     }
@@ -96,6 +96,11 @@ impl<'a> Call<'a> {
         (map[3] + map[4]) as usize..map[5] as usize
     }
 
+    /// The block of a call that no size refuses, with a bit changed.
+    pub(crate) fn flipped(self, bit: usize) -> [u8; 16] {
+        blocks::flipped(self.sample().block, bit)
+    }
+
     /// A legal block with an unmapped bit changed: words as they were painted before, and the map as it was written before.
     pub fn same_without(
         self,
@@ -103,7 +108,7 @@ impl<'a> Call<'a> {
         words: &mut Canvas,
         map: &mut Canvas,
     ) -> Result<(), String> {
-        let changed = blocks::flipped(self.sample().block, bit);
+        let changed = self.flipped(bit);
         let call = Call {
             block: &changed,
             ..self

@@ -1,6 +1,7 @@
 //! What an output holds before a call, and how it is held to what it must hold after it.
 
 use model::random::Random;
+use std::fmt::LowerHex;
 use std::ops::Range;
 
 /// The words before an output and behind it, which must stay.
@@ -14,23 +15,44 @@ pub(crate) fn marks(random: &mut Random) -> impl Fn(usize) -> u32 {
     move |i| (i as u32).wrapping_mul(0x9e37_79b9).wrapping_add(salt)
 }
 
+/// What an output has in each place.
+pub trait Place: Copy + PartialEq + LowerHex {
+    /// What a place holds that nothing was written to.
+    fn unwritten(mark: u32) -> Self;
+}
+
+impl Place for u32 {
+    fn unwritten(mark: u32) -> u32 {
+        mark
+    }
+}
+
+/// Marks of a texel's channels, which have four bits: here a higher one is set.
+impl Place for u8 {
+    fn unwritten(mark: u32) -> u8 {
+        mark as u8 | 0x80
+    }
+}
+
 /// The room of an output for `wanted` words: exactly that, or more.
 pub fn room(wanted: usize, random: &mut Random) -> usize {
     wanted + random.below(2) * random.below(SPARE + 1)
 }
 
 /// An output among words that must stay, and what all of them must be.
-pub struct Canvas {
-    marks: Vec<u32>,
-    all: Vec<u32>,
-    expected: Vec<u32>,
+pub struct Canvas<T = u32> {
+    marks: Vec<T>,
+    all: Vec<T>,
+    expected: Vec<T>,
     out: Range<usize>,
 }
 
-impl Canvas {
+impl<T: Place> Canvas<T> {
     /// An output of so many words, of which nothing is expected to change.
     pub fn new(room: usize, random: &mut Random) -> Self {
-        let marks: Vec<u32> = (0..AROUND + room + AROUND).map(marks(random)).collect();
+        let mark = marks(random);
+        let places = 0..AROUND + room + AROUND;
+        let marks: Vec<T> = places.map(|i| T::unwritten(mark(i))).collect();
         Canvas {
             all: marks.clone(),
             expected: marks.clone(),
@@ -49,11 +71,11 @@ impl Canvas {
         self.all.len()
     }
 
-    pub fn out(&mut self) -> &mut [u32] {
+    pub fn out(&mut self) -> &mut [T] {
         &mut self.all[self.out.clone()]
     }
 
-    pub fn expected(&mut self) -> &mut [u32] {
+    pub fn expected(&mut self) -> &mut [T] {
         &mut self.expected[self.out.clone()]
     }
 
@@ -70,10 +92,11 @@ impl Canvas {
         let mut pairs = self.all.iter().zip(&self.expected);
         let place = pairs.position(|(a, b)| a != b).unwrap();
         Err(format!(
-            "{what} {}: ours {:08x}, expected {:08x}",
+            "{what} {}: ours {:0wide$x}, expected {:0wide$x}",
             place as isize - AROUND as isize,
             self.all[place],
-            self.expected[place]
+            self.expected[place],
+            wide = 2 * size_of::<T>()
         ))
     }
 }

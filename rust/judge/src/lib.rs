@@ -4,6 +4,7 @@
 pub mod archive;
 pub mod block;
 mod canvas;
+pub mod channels;
 pub mod image;
 mod sample;
 

@@ -1,7 +1,8 @@
 //! A block, and what document 01 and the original make of it.
 
-use model::{answer, MAGENTA};
-use original::astc::decode_astc_block;
+use model::{answer, Layout, Texel, MAGENTA};
+use original::astc::{decode_astc_block, probe};
+use std::array;
 use std::panic::{catch_unwind, AssertUnwindSafe};
 
 /// A block at a footprint, and the answer that document 01 gives it.
@@ -38,10 +39,46 @@ impl Sample {
             words.fill(MAGENTA);
             return Ok(());
         }
-        catch_unwind(AssertUnwindSafe(|| {
-            decode_astc_block(&self.block, self.bw, self.bh, words)
-        }))
-        .map_err(|_| format!("the original panics at a block of answer {}", self.answer))
+        self.ask(|| decode_astc_block(&self.block, self.bw, self.bh, words))
+    }
+
+    /// What the original gives, if it does not panic.
+    fn ask<T>(&self, work: impl FnOnce() -> T) -> Result<T, String> {
+        catch_unwind(AssertUnwindSafe(work))
+            .map_err(|_| format!("the original panics at a block of answer {}", self.answer))
+    }
+
+    /// The channels of the block's texels: which of them are floats by the model's rules, which must be the original's tables; void
+    /// and magenta by the rules alone; and of a legal block the halves and the bytes of the original.
+    pub fn channels(&self) -> Result<Vec<Texel>, String> {
+        match self.answer {
+            0 => self.blended(),
+            1 => Ok(vec![Texel::void(&self.block); self.texels()]),
+            _ => Ok(vec![Texel::MAGENTA; self.texels()]),
+        }
+    }
+
+    fn blended(&self) -> Result<Vec<Texel>, String> {
+        let modes = Layout::of(&self.block).modes(&self.block);
+        let texels = self.ask(|| probe::texels(&self.block, self.bw, self.bh))?;
+        let texel = |texel: &probe::Texel| {
+            let mode = modes[texel.partition];
+            let hdr = texel.channels.map(|channel| channel.hdr);
+            if hdr != array::from_fn(|k| model::floats(mode) >> k & 1 == 1) {
+                return Err(format!("the original has {hdr:?} for mode {mode}"));
+            }
+            Ok(Texel::blended(
+                mode,
+                texel.channels.map(|channel| {
+                    if channel.hdr {
+                        channel.half()
+                    } else {
+                        channel.byte().into()
+                    }
+                }),
+            ))
+        };
+        texels.iter().map(texel).collect()
     }
 }
 

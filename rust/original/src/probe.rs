@@ -2,6 +2,8 @@
 /// Probes: the private functions above, called as `decode_astc_block` calls them.
 pub mod probe {
     use super::*;
+    use std::array;
+    use std::sync::LazyLock;
 
     /// What `decode_block_params` finds.
     pub struct Params {
@@ -124,5 +126,91 @@ pub mod probe {
 
     pub fn void_half(h: u16) -> u8 {
         f16ptr_to_u8(&h.to_le_bytes())
+    }
+
+    /// What `applicate_color` makes a channel of: two endpoints and a weight, by `select_color_hdr` or by `select_color`.
+    #[derive(Clone, Copy)]
+    pub struct Channel {
+        pub hdr: bool,
+        pub v0: i32,
+        pub v1: i32,
+        pub weight: i32,
+    }
+
+    impl Channel {
+        /// The half of an HDR channel: the lines of `select_color_hdr` up to it.
+        pub fn half(self) -> u16 {
+            let Channel { v0, v1, weight, .. } = self;
+            let c: u16 = (((v0 << 4) * (64 - weight) + (v1 << 4) * weight + 32) >> 6) as u16;
+            let mut m: u16 = c & 0x7ff;
+            if m < 512 {
+                m *= 3;
+            } else if m < 1536 {
+                m = 4 * m - 512;
+            } else {
+                m = 5 * m - 2048;
+            }
+            (c >> 1 & 0x7c00) | m >> 3
+        }
+
+        /// The byte of an LDR channel.
+        pub fn byte(self) -> u8 {
+            select_color(self.v0, self.v1, self.weight)
+        }
+    }
+
+    /// A texel's partition, and its red, green, blue and alpha.
+    pub struct Texel {
+        pub partition: usize,
+        pub channels: [Channel; 4],
+    }
+
+    /// Whether the channels of an endpoint mode are HDR, by `applicate_color`'s own tables: it paints a texel whose endpoints are all
+    /// 32, which is 32 of an LDR channel and 0 of an HDR one.
+    pub fn hdr(mode: usize) -> [bool; 4] {
+        let mut d = BlockData::default();
+        d.bw = 1;
+        d.bh = 1;
+        d.part_num = 1;
+        d.cem[0] = mode;
+        d.endpoints[0] = [32; 8];
+        let mut word = [0];
+        applicate_color(&mut d, &mut word);
+        let [blue, green, red, alpha] = word[0].to_le_bytes();
+        [red, green, blue, alpha].map(|byte| byte == 0)
+    }
+
+    static HDR: LazyLock<[[bool; 4]; 16]> = LazyLock::new(|| array::from_fn(hdr));
+
+    /// The texels of a block that is neither void nor reserved, as `applicate_color` finds them.
+    pub fn texels(buf: &[u8], bw: usize, bh: usize) -> Vec<Texel> {
+        let mut d = BlockData::default();
+        d.bw = bw;
+        d.bh = bh;
+        decode_block_params(buf, &mut d);
+        decode_endpoints(buf, &mut d);
+        decode_weights(buf, &mut d);
+        if d.part_num > 1 {
+            select_partition(buf, &mut d);
+        }
+        let mut planes = [0; 4];
+        if d.dual_plane {
+            planes[d.plane_selector] = 1;
+        }
+        let texel = |i: usize| {
+            let partition = d.partition[i];
+            let ends = d.endpoints[partition];
+            let channel = |k: usize| Channel {
+                hdr: HDR[d.cem[partition]][k],
+                v0: ends[k],
+                v1: ends[4 + k],
+                weight: d.weights[i][planes[k]],
+            };
+            Texel {
+                partition,
+                channels: array::from_fn(channel),
+            }
+        };
+        (0..bw * bh).map(texel).collect()
     }
 }
