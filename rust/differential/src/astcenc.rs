@@ -4,6 +4,7 @@
 use crate::run::{run, Options, Tally};
 use crate::shim::{Context, Findings};
 use judge::{archive, Sample};
+use model::blocks::Kind;
 use model::{bits, Layout, FOOTPRINTS, HDR_MODES, TOPS};
 use std::time::Instant;
 
@@ -107,5 +108,5 @@ pub fn compare(options: &Options) -> bool {
             .collect();
         move |sample: &Sample, _: &mut _, tally: &mut Tally| judge(&mut judges, sample, tally)
     };
-    run(options, judges).end(start)
+    run(options, Kind::of, judges).end(start)
 }

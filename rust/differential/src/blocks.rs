@@ -3,8 +3,10 @@
 use crate::run::{run, Options, Tally};
 use judge::block::{Call, NUMBERS};
 use judge::{room, Canvas, Sample, SPARE};
+use model::blocks::{self, Kind};
 use model::random::Random;
-use model::{blocks, FOOTPRINTS};
+use model::FOOTPRINTS;
+use std::fmt;
 use std::time::Instant;
 
 /// One block: its words and what lies around them, its map, and for a legal block that no unmapped bit matters.
@@ -30,7 +32,7 @@ fn judge(sample: &Sample, random: &mut Random, tally: &mut Tally) -> Result<(), 
 
 /// Footprints up to 20x20, the largest sizes, sizes whose product wraps, and listed sizes with a high bit set, which a narrower
 /// number would take for them.
-fn footprints() -> Vec<(usize, usize)> {
+pub fn footprints() -> Vec<(usize, usize)> {
     let mut all: Vec<_> = (0..=20)
         .flat_map(|w| (0..=20).map(move |h| (w, h)))
         .collect();
@@ -50,14 +52,20 @@ fn footprints() -> Vec<(usize, usize)> {
     all
 }
 
+/// Bytes of blocks that would be legal, one after the other, and more than two blocks have.
+pub fn legal_bytes(random: &mut Random) -> [u8; 40] {
+    let mut bytes = [0; 40];
+    for block in bytes.chunks_mut(16) {
+        block.copy_from_slice(&blocks::likely(random, 4, 4)[..block.len()]);
+    }
+    bytes
+}
+
 /// Calls that their sizes refuse, one or several sizes wrong: the answer, and an output that stays. The sixteen bytes and those
 /// after them would be legal blocks.
 fn compare_refusals(random: &mut Random, tally: &mut Tally) {
     for (bw, bh) in footprints() {
-        let mut bytes = [0; 40];
-        for block in bytes.chunks_mut(16) {
-            block.copy_from_slice(&blocks::likely(random, 4, 4)[..block.len()]);
-        }
+        let bytes = legal_bytes(random);
         let texels = bw.saturating_mul(bh);
         let most = 144 + SPARE;
         for len in 0..=bytes.len() {
@@ -67,13 +75,15 @@ fn compare_refusals(random: &mut Random, tally: &mut Tally) {
                 let room = room.min(most);
                 if let Some(answer) = call.refusal(room, texels) {
                     let outcome = call.words(&mut Canvas::new(room, random));
-                    refused("block", call, room, answer, outcome, tally);
+                    let what = format_args!("block with room for {room}");
+                    refused(what, call, answer, outcome, tally);
                 }
             }
             for room in 0..=12 {
                 if let Some(answer) = call.refusal(room, NUMBERS) {
                     let outcome = call.map(&mut Canvas::new(room, random));
-                    refused("map", call, room, answer, outcome, tally);
+                    let what = format_args!("map with room for {room}");
+                    refused(what, call, answer, outcome, tally);
                 }
             }
         }
@@ -81,10 +91,9 @@ fn compare_refusals(random: &mut Random, tally: &mut Tally) {
 }
 
 /// Counts a refused call, and says where it differs, if it does.
-fn refused(
-    what: &str,
+pub fn refused(
+    what: fmt::Arguments,
     call: Call,
-    room: usize,
     answer: u32,
     outcome: Result<u32, String>,
     tally: &mut Tally,
@@ -92,13 +101,14 @@ fn refused(
     tally.count(match answer {
         20 => "calls refused by 20",
         21 => "calls refused by 21",
-        _ => "calls refused by 22",
+        22 => "calls refused by 22",
+        _ => "calls refused by 23",
     });
     if let Err(difference) = outcome {
         let Call { block, bw, bh } = call;
         let len = block.len();
         tally.differ(&format!(
-            "{what} at {bw}x{bh} of {len} bytes with room for {room}: {difference}"
+            "{what}, at {bw}x{bh} of {len} bytes: {difference}"
         ));
     }
 }
@@ -112,5 +122,5 @@ pub fn compare(options: &Options) -> bool {
     let start = Instant::now();
     let mut refusals = Tally::default();
     compare_refusals(&mut Random::new(options.seed), &mut refusals);
-    run(options, || judge).plus(refusals).end(start)
+    run(options, Kind::of, || judge).plus(refusals).end(start)
 }

@@ -57,7 +57,8 @@ impl Tally {
         }
     }
 
-    fn take<J: Judge>(
+    /// Has a block judged, and counts it.
+    pub fn take<J: Judge>(
         &mut self,
         kind: &'static str,
         sample: &Sample,
@@ -120,6 +121,8 @@ impl Tally {
 /// The blocks of a run, in parts: first those of all first eleven bits, a part for each footprint, then those of all kinds.
 struct Source<'a> {
     options: &'a Options,
+    /// The kind of the block of each number.
+    kinds: fn(u64) -> Kind,
     legal: [Legal; FOOTPRINTS.len()],
 }
 
@@ -145,7 +148,7 @@ impl Source<'_> {
         let start = (part - FOOTPRINTS.len() as u64) * PART;
         (start..self.options.count.min(start + PART))
             .map(|number| {
-                let kind = Kind::of(number);
+                let kind = (self.kinds)(number);
                 let place = random.below(FOOTPRINTS.len());
                 let block = kind.block(random, FOOTPRINTS[place], &self.legal[place]);
                 (kind.name(), Sample::new(block, FOOTPRINTS[place]))
@@ -154,10 +157,15 @@ impl Source<'_> {
     }
 }
 
-/// Hands each block of a run to the judge of a thread.
-pub fn run<J: Judge>(options: &Options, judge: impl Fn() -> J + Sync) -> Tally {
+/// Hands each block of a run to the judge of a thread. The kinds are those of the blocks by their numbers.
+pub fn run<J: Judge>(
+    options: &Options,
+    kinds: fn(u64) -> Kind,
+    judge: impl Fn() -> J + Sync,
+) -> Tally {
     let source = Source {
         options,
+        kinds,
         legal: FOOTPRINTS.map(|(bw, bh)| Legal::at(bw, bh)),
     };
     let next = AtomicU64::new(0);

@@ -68,11 +68,10 @@ int shim_findings(void *context, const uint8_t *block, Findings *findings) {
     return 0;
 }
 
-// Paints an image of blocks as red, green, blue, alpha bytes; 0 if it was painted.
-int shim_paint(void *context, const uint8_t *blocks, size_t len, unsigned int width, unsigned int height, uint8_t *bytes) {
+// Paints an image of blocks as red, green, blue, alpha, in bytes or in floats; 0 if it was painted.
+int shim_paint(void *context, const uint8_t *blocks, size_t len, unsigned int width, unsigned int height, void *pixels, int floats) {
     astcenc_context *c = static_cast<astcenc_context *>(context);
-    void *slice = bytes;
-    astcenc_image image = {width, height, 1, ASTCENC_TYPE_U8, &slice};
+    astcenc_image image = {width, height, 1, floats ? ASTCENC_TYPE_F32 : ASTCENC_TYPE_U8, &pixels};
     astcenc_error error = astcenc_decompress_image(c, blocks, len, &image, &as_it_is, 0);
     astcenc_decompress_reset(c);
     return error != ASTCENC_SUCCESS;

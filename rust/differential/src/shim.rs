@@ -30,7 +30,8 @@ extern "C" {
         len: usize,
         width: c_uint,
         height: c_uint,
-        bytes: *mut u8,
+        pixels: *mut c_void,
+        floats: c_int,
     ) -> c_int;
     fn shim_encode(
         bw: c_uint,
@@ -75,10 +76,43 @@ impl Context {
         bytes
     }
 
+    /// Red, green, blue and alpha of each texel of a block, as floats.
+    pub fn paint_block_floats(&mut self, block: &[u8; 16]) -> Vec<f32> {
+        let (width, height) = (self.bw, self.bh);
+        let mut floats = vec![0.0; 4 * width * height];
+        self.paint_floats(block, (width, height), &mut floats);
+        floats
+    }
+
     /// Paints red, green, blue and alpha of each pixel of an image.
-    pub fn paint(&mut self, data: &[u8], (width, height): (usize, usize), bytes: &mut [u8]) {
-        assert_eq!(bytes.len(), 4 * width * height, "a byte for each channel");
-        // SAFETY: the state is live, astcenc refuses data too short for the image, and there are four bytes for each pixel.
+    pub fn paint(&mut self, data: &[u8], size: (usize, usize), bytes: &mut [u8]) {
+        assert_eq!(bytes.len(), 4 * size.0 * size.1, "a byte for each channel");
+        // SAFETY: there are four bytes for each pixel.
+        unsafe { self.paint_to(data, size, bytes.as_mut_ptr().cast(), false) }
+    }
+
+    /// Paints red, green, blue and alpha of each pixel of an image, as floats.
+    pub fn paint_floats(&mut self, data: &[u8], size: (usize, usize), floats: &mut [f32]) {
+        assert_eq!(
+            floats.len(),
+            4 * size.0 * size.1,
+            "a float for each channel"
+        );
+        // SAFETY: there are four floats for each pixel.
+        unsafe { self.paint_to(data, size, floats.as_mut_ptr().cast(), true) }
+    }
+
+    /// # Safety
+    ///
+    /// There must be room for four bytes, or for four floats, of each pixel.
+    unsafe fn paint_to(
+        &mut self,
+        data: &[u8],
+        (width, height): (usize, usize),
+        pixels: *mut c_void,
+        floats: bool,
+    ) {
+        // SAFETY: the state is live, astcenc refuses data too short for the image, and the caller sees to the pixels.
         let status = unsafe {
             shim_paint(
                 self.state.as_ptr(),
@@ -86,7 +120,8 @@ impl Context {
                 data.len(),
                 width as c_uint,
                 height as c_uint,
-                bytes.as_mut_ptr(),
+                pixels,
+                floats.into(),
             )
         };
         assert_eq!(status, 0, "astcenc paints every image");
