@@ -8,7 +8,10 @@
 #include <stdlib.h>
 #include <string.h>
 
-enum { BLOCK = 16, NUMBERS = 9, MOVED = 3, HEAD = 3 + BLOCK, FOOTPRINTS = 14, MARK = 0x5a };
+enum { BLOCK = 16, NUMBERS = 9, CHANNELS = 4, MOVED = 3, HEAD = 3 + BLOCK, FOOTPRINTS = 14, MARK = 0x5a };
+
+/* The answer to options that are not known. */
+enum { NOT_KNOWN = 23 };
 
 static const uint8_t SIDES[FOOTPRINTS][2] = {{4, 4}, {5, 4}, {5, 5}, {6, 5}, {6, 6}, {8, 5}, {8, 6}, {8, 8}, {10, 5}, {10, 6}, {10, 8}, {10, 10}, {12, 10}, {12, 12}};
 
@@ -93,6 +96,47 @@ static void map_block(const uint8_t *record) {
     free(block);
 }
 
+static float float_of(uint32_t bits) {
+    float f;
+    memcpy(&f, &bits, 4);
+    return f;
+}
+
+/* The byte that a channel comes to: as it is, or 255 times a float, rounded down, of 0 to 255; minus infinity comes to 255. */
+static uint32_t byte_of(uint32_t number, int is_float) {
+    float f = float_of(number);
+    if (!is_float) {
+        return number;
+    }
+    if (number == 0xff800000u || f >= 1) {
+        return 255;
+    }
+    return f > 0 ? (uint32_t)(255 * f) : 0;
+}
+
+/* Each channel and each mark is defined, and a texel's channels come to its word. */
+static void channel_block(const uint8_t *record) {
+    static const int PLACES[CHANNELS] = {16, 8, 0, 24};
+    size_t texels = texels_of(record);
+    uint8_t *block = copy(block_of(record), BLOCK), *floats = fresh(texels);
+    uint32_t *numbers = fresh(4 * CHANNELS * texels);
+    uint32_t answer = astc_block_channels(0, block, BLOCK, bw_of(record), bh_of(record), numbers, CHANNELS * texels, floats, texels);
+    hold(answer == answer_of(record), "the answer of channels");
+    for (size_t i = 0; i < texels; i++) {
+        uint32_t word = 0;
+        hold(floats[i] < (answer < ASTC_RESERVED_MODE ? 16 : 1), "a mark of channels");
+        for (int k = 0; k < CHANNELS; k++) {
+            uint32_t byte = byte_of(numbers[CHANNELS * i + k], floats[i] >> k & 1);
+            hold(byte <= 255, "a byte of channels");
+            word |= byte << PLACES[k];
+        }
+        hold(word == word_of(record, i), "the word of channels");
+    }
+    free(numbers);
+    free(floats);
+    free(block);
+}
+
 /* The block and its map take the same arguments. */
 typedef uint32_t (*block_call)(const uint8_t *, size_t, size_t, size_t, uint32_t *, size_t);
 
@@ -103,6 +147,32 @@ static void refuse(block_call call, size_t length, size_t bw, size_t bh, size_t 
     hold_marked(out, 4 * room);
     free(block);
     refusals++;
+}
+
+static void refuse_channels(uint32_t options, size_t length, size_t bw, size_t bh, size_t numbers, size_t floats, uint32_t answer) {
+    uint8_t *block = marked(length), *marks = marked(floats);
+    uint32_t *out = marked(4 * numbers);
+    hold(astc_block_channels(options, block, length, bw, bh, out, numbers, marks, floats) == answer, "the answer of refused channels");
+    hold_marked(out, 4 * numbers);
+    hold_marked(marks, floats);
+    free(block);
+    refusals++;
+}
+
+/* Either output too short, or both, and options that are not known. */
+static void refuse_options_and_rooms(size_t bw, size_t bh) {
+    static const uint32_t OPTIONS[] = {1, 2, 4, 8, 0x80000000u};
+    size_t texels = bw * bh, numbers = CHANNELS * texels;
+    refuse_channels(0, BLOCK, bw, bh, numbers - 1, texels, ASTC_OUTPUT_TOO_SHORT);
+    refuse_channels(0, BLOCK, bw, bh, numbers, texels - 1, ASTC_OUTPUT_TOO_SHORT);
+    refuse_channels(0, BLOCK, bw, bh, texels, texels, ASTC_OUTPUT_TOO_SHORT);
+    refuse_channels(0, BLOCK, bw, bh, 0, 0, ASTC_OUTPUT_TOO_SHORT);
+    for (size_t i = 0; i < sizeof OPTIONS / sizeof OPTIONS[0]; i++) {
+        refuse_channels(OPTIONS[i], BLOCK, bw, bh, numbers, texels, NOT_KNOWN);
+        refuse_channels(OPTIONS[i], BLOCK - 1, bw, bh, numbers, texels, NOT_KNOWN);
+        refuse_channels(OPTIONS[i], BLOCK, bw, bh, 0, 0, NOT_KNOWN);
+        refuse_channels(OPTIONS[i], 0, SIZE_MAX, bh, 0, 0, NOT_KNOWN);
+    }
 }
 
 static int listed(size_t bw, size_t bh) {
@@ -121,6 +191,7 @@ static void refuse_blocks(void) {
                 uint32_t answer = length != BLOCK ? ASTC_BLOCK_LENGTH : listed(bw, bh) ? ASTC_OUTPUT_TOO_SHORT : ASTC_FOOTPRINT;
                 refuse(astc_decode_block, length, bw, bh, 0 < bw * bh ? bw * bh - 1 : 0, answer);
                 refuse(astc_block_map, length, bw, bh, NUMBERS - 1, answer);
+                refuse_channels(0, length, bw, bh, 0, 0, answer);
             }
         }
     }
@@ -303,11 +374,13 @@ static void try_footprint(size_t bw, size_t bh, const uint8_t *list, size_t size
         if (bw_of(record) == bw && bh_of(record) == bh) {
             paint_block(record);
             map_block(record);
+            channel_block(record);
             records[count++] = record;
         }
     }
     paint_images(bw, bh, records, count);
     refuse_images(bw, bh);
+    refuse_options_and_rooms(bw, bh);
     blocks += count;
     free(records);
 }
@@ -334,6 +407,6 @@ int main(int argc, char **argv) {
     }
     refuse_blocks();
     free(list);
-    printf("%lu blocks and maps, %lu images at once, %lu steps, %lu refused calls\n", blocks, images, steps, refusals);
+    printf("%lu blocks, maps and channels, %lu images at once, %lu steps, %lu refused calls\n", blocks, images, steps, refusals);
     return 0;
 }

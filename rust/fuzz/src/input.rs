@@ -9,11 +9,13 @@ use judge::SPARE;
 use model::{Shape, FOOTPRINTS};
 use std::fmt;
 
-/// The functions, in the first two bits of an input.
+/// The functions, in the first two bits of an input and the eighth.
 pub const WORDS: u8 = 0;
 pub const MAP: u8 = 1;
 pub const IMAGE: u8 = 2;
 pub const STEPS: u8 = 3;
+pub const CHANNELS: u8 = 1 << 7;
+const FUNCTIONS: u8 = 3 | CHANNELS;
 
 /// The kinds of sizes that are any numbers, in the bits above.
 pub const ANY_FOOTPRINT: u8 = 1 << 2;
@@ -21,6 +23,8 @@ pub const ANY_SIDES: u8 = 1 << 3;
 pub const ANY_ROOM: u8 = 1 << 4;
 pub const ANY_STEP: u8 = 1 << 5;
 pub const ANY_LENGTH: u8 = 1 << 6;
+/// A block has no sides, and only its channels have options.
+pub const ANY_OPTIONS: u8 = ANY_SIDES;
 
 /// The most blocks of a side of an image whose sides are not any numbers.
 const SIDE: usize = 4;
@@ -45,6 +49,16 @@ pub enum Request {
         room: usize,
         block: Vec<u8>,
     },
+    /// A block's channels, and for a legal block again with one of the unmapped bits changed; the room is that for numbers and that for
+    /// marks.
+    Channels {
+        options: u32,
+        bw: usize,
+        bh: usize,
+        bit: usize,
+        room: (usize, usize),
+        block: Vec<u8>,
+    },
     Image {
         shape: Shape,
         room: usize,
@@ -65,7 +79,7 @@ impl Request {
     pub fn read(input: &[u8]) -> Self {
         let (&first, rest) = input.split_first().unwrap_or((&0, &[]));
         let bytes = &mut Bytes { first, rest };
-        match first & 3 {
+        match first & FUNCTIONS {
             WORDS => {
                 let (bw, bh) = bytes.footprint();
                 Request::Words {
@@ -93,7 +107,7 @@ impl Request {
                     data: bytes.data(16 * blocks(shape)),
                 }
             }
-            _ => {
+            STEPS => {
                 let shape = bytes.shape();
                 Request::Steps {
                     shape,
@@ -102,6 +116,21 @@ impl Request {
                     paces: [bytes.pace(), bytes.pace(), bytes.pace()],
                     room: bytes.room(shape.width.saturating_mul(shape.height)),
                     data: bytes.data(16 * blocks(shape)),
+                }
+            }
+            _ => {
+                let (bw, bh) = bytes.footprint();
+                let texels = bw.saturating_mul(bh);
+                Request::Channels {
+                    options: bytes.options(),
+                    bw,
+                    bh,
+                    bit: bytes.byte(),
+                    room: (
+                        bytes.room(texels.saturating_mul(model::CHANNELS)),
+                        bytes.room(texels),
+                    ),
+                    block: bytes.data(16),
                 }
             }
         }
@@ -124,6 +153,17 @@ impl fmt::Display for Request {
                 room,
                 block,
             } => write!(f, "map of {block:02x?} at {bw}x{bh} with room for {room}"),
+            Request::Channels {
+                options,
+                bw,
+                bh,
+                room,
+                block,
+                ..
+            } => write!(
+                f,
+                "channels of {block:02x?} at {bw}x{bh} with options {options:x} and room for {room:?}"
+            ),
             Request::Image { shape, room, data } => {
                 write!(
                     f,
@@ -180,6 +220,15 @@ impl Bytes<'_> {
 
     fn number(&mut self) -> usize {
         self.wide(usize::BITS / 8)
+    }
+
+    /// The options of a call: any, or none.
+    fn options(&mut self) -> u32 {
+        if self.any(ANY_OPTIONS) {
+            self.wide(4) as u32
+        } else {
+            0
+        }
     }
 
     fn footprint(&mut self) -> (usize, usize) {
@@ -285,6 +334,26 @@ mod tests {
         assert_eq!((shape.width, shape.height), (usize::MAX, 4));
         assert_eq!(room, 0x103);
         assert_eq!(data, [9, 8, 7]);
+    }
+
+    #[test]
+    fn channels_have_options_and_two_rooms() {
+        let first = CHANNELS | ANY_OPTIONS | ANY_ROOM;
+        let input = [first, 1, 0, 0, 0, 0x80, 9, 80, 0, 19, 0, 7];
+        let Request::Channels {
+            options,
+            bw,
+            bh,
+            bit,
+            room,
+            block,
+        } = Request::read(&input)
+        else {
+            panic!("the fifth function is that of channels");
+        };
+        assert_eq!((options, bw, bh, bit), (1 << 31, 5, 4, 9));
+        assert_eq!(room, (80, 19));
+        assert_eq!(block, [7; 16]);
     }
 
     #[test]

@@ -1,4 +1,4 @@
-//! Inputs to start from: blocks of all kinds at every footprint, their maps, images of them, and sizes that are refused.
+//! Inputs to start from: blocks of all kinds at every footprint, their maps and channels, images of them, and sizes that are refused.
 
 use crate::input::*;
 use model::blocks::{Kind, Legal};
@@ -26,16 +26,17 @@ pub fn block(kind: Kind, place: usize, random: &mut Random) -> Block {
 fn blocks(place: usize, random: &mut Random) -> Vec<Block> {
     let groups = LEGAL[place].of_each_group(random);
     let mut all: Vec<_> = groups.iter().map(|c| c.fill(random)).collect();
-    for kind in Kind::ALL {
+    for kind in Kind::ALL.into_iter().chain([Kind::Hdr]) {
         all.extend((0..OF_A_KIND).map(|_| block(kind, place, random)));
     }
     all
 }
 
-/// A block's words with exactly their room, or its map with a place more.
+/// A block's words or its channels with exactly their room, or its map with a place more.
 fn of_block(number: usize, place: u8, block: &Block) -> Vec<u8> {
     match number % 4 {
         0 => [&[MAP, place, 129], &block[..]].concat(),
+        1 => [&[CHANNELS, place, number as u8, 0, 0], &block[..]].concat(),
         _ => [&[WORDS, place, number as u8, 0], &block[..]].concat(),
     }
 }
@@ -79,7 +80,7 @@ fn of_any_sizes(place: u8, block: &Block) -> Vec<Vec<u8>> {
         (bw | high, bh),
         (max, max),
     ] {
-        for function in [WORDS, MAP, IMAGE, STEPS] {
+        for function in [WORDS, MAP, IMAGE, STEPS, CHANNELS] {
             let first = [function | ANY_FOOTPRINT];
             all.push([&first[..], &pair(footprint), &[0; 4], block].concat());
         }
@@ -109,10 +110,31 @@ fn of_any_sizes(place: u8, block: &Block) -> Vec<Vec<u8>> {
         let image = [&[IMAGE | ANY_ROOM, place][..], &sides, &[room, 0]].concat();
         all.push([&image[..], block].concat());
     }
+    all.extend(of_channels(place, block));
     for length in 0..=16 {
         let block = &block[..length];
+        all.push([&[CHANNELS | ANY_LENGTH, place, 0, 0, 0], block].concat());
         all.push([&[WORDS | ANY_LENGTH, place, 0, 0], block, &[0]].concat());
         all.push([&[IMAGE | ANY_LENGTH, place, 0, 0, 0], block].concat());
+    }
+    all
+}
+
+/// A block's channels with rooms at their limits and below them, and with options.
+fn of_channels(place: u8, block: &Block) -> Vec<Vec<u8>> {
+    let (bw, bh) = FOOTPRINTS[usize::from(place)];
+    let texels = (bw * bh) as u16;
+    let mut all = Vec::new();
+    for numbers in [0, texels, 4 * texels - 1, 4 * texels] {
+        for floats in [0, texels - 1, texels] {
+            let rooms = [numbers, floats].map(u16::to_le_bytes).concat();
+            all.push([&[CHANNELS | ANY_ROOM, place, 0], &rooms[..], block].concat());
+        }
+    }
+    for options in [0u32, 1, 2, 4, 8, 1 << 31, u32::MAX] {
+        let first = [CHANNELS | ANY_OPTIONS, place];
+        let options = options.to_le_bytes();
+        all.push([&first[..], &options, &[0, 0, 0], block].concat());
     }
     all
 }

@@ -3,6 +3,7 @@
 use crate::fence::Fence;
 use crate::input::Request;
 use judge::block::{Call, NUMBERS};
+use judge::channels::Outputs;
 use judge::image::{self, Image, Moved, Step, MOVED};
 use judge::Canvas;
 use model::random::Random;
@@ -50,6 +51,18 @@ impl Request {
                 let map = &mut Canvas::new(room, random);
                 Call { block, bw, bh }.map(map).map(|_| ())
             }
+            Request::Channels {
+                options,
+                bw,
+                bh,
+                bit,
+                room,
+                ref block,
+            } => {
+                let block = fence.hold(block);
+                let outputs = &mut Outputs::new(room, random);
+                channels(Call { block, bw, bh }, options, outputs, bit)
+            }
             Request::Image {
                 shape,
                 room,
@@ -87,11 +100,27 @@ fn words(call: Call, room: usize, bit: usize, random: &mut Random) -> Result<(),
     }
     let map = &mut Canvas::new(NUMBERS, random);
     call.map(map)?;
+    match changed(call, bit) {
+        Some(bit) => call.same_without(bit, words, map),
+        None => Ok(()),
+    }
+}
+
+/// The unmapped bit of a legal block that is changed, by a number that chooses it, if there is one.
+fn changed(call: Call, choice: usize) -> Option<usize> {
     let unmapped = call.unmapped();
-    if unmapped.is_empty() {
+    let bit = choice.checked_rem(unmapped.len())?;
+    Some(unmapped.start + bit)
+}
+
+fn channels(call: Call, options: u32, outputs: &mut Outputs, bit: usize) -> Result<(), String> {
+    if call.channels(options, outputs)? != 0 {
         return Ok(());
     }
-    call.same_without(unmapped.start + bit % unmapped.len(), words, map)
+    match changed(call, bit) {
+        Some(bit) => call.same_channels_without(bit, outputs),
+        None => Ok(()),
+    }
 }
 
 fn whole(data: &[u8], shape: Shape, canvas: &mut Canvas) -> Result<(), String> {
