@@ -24,8 +24,8 @@ use run::Options;
 use std::process::ExitCode;
 
 const USAGE: &str = "usage: differential blocks|astcenc|channels [--seed N] [--count N] [--threads N], or differential images [--seed N] \
-[--count N], or differential speed [pictures] [hdr] [kinds] [calls] [linear] [threads] [stack] [--runs N]; N is a number, of threads and \
-runs at least 1";
+[--count N], or differential speed [pictures] [hdr] [floats] [kinds] [calls] [linear] [threads] [stack] [--runs N]; N is a number, of \
+threads and runs at least 1";
 
 /// The options of a command over so many blocks, if no other number is asked for, or over images, which has one thread.
 fn options(words: &[String], count: u64, images: bool) -> Option<Options> {

@@ -1,9 +1,10 @@
 //! Seeded blocks of each kind, at each footprint.
 
 use super::kinds::{Kind, Source};
-use super::race::{Canvas, Race, Rates};
+use super::race::Race;
 use super::rival::{Profile, Rival, THERE};
 use super::verdict::{least, mean, Mark};
+use super::words::{Canvas, Rates, Words};
 use model::blocks::Legal;
 use model::{Shape, FOOTPRINTS};
 
@@ -60,9 +61,10 @@ impl At {
                 Profile::Hdr => self.hdr.as_mut(),
             };
             let (bw, bh) = (self.shape.bw, self.shape.bh);
-            race.turn(canvas, rival).map_err(|difference| {
-                format!("{} blocks at {bw}x{bh}: {difference}", kind.name())
-            })?;
+            race.turn(&mut Words { canvas, rival })
+                .map_err(|difference| {
+                    format!("{} blocks at {bw}x{bh}: {difference}", kind.name())
+                })?;
         }
         Ok(())
     }
@@ -77,7 +79,7 @@ fn rates(runs: usize) -> Result<Vec<Row>, String> {
             at.turn(&mut canvas)?;
         }
     }
-    let row = |at: &At| at.races.iter().map(Race::rates).collect();
+    let row = |at: &At| at.races.iter().map(Rates::of).collect();
     Ok(all.iter().map(row).collect())
 }
 

@@ -1,9 +1,10 @@
 //! How fast the archive paints images, beside the original and, where it was there to build with, astcenc's library on one thread:
-//! all in one process, on the same images, by processor time, best of some runs. Also how the time grows with the blocks, what a
-//! second thread gains, and how much stack the functions use.
+//! all in one process, on the same images, by processor time, best of some runs; and as floats beside astcenc. Also how the time grows
+//! with the blocks, what a second thread gains, and how much stack the functions use.
 
 mod calls;
 mod drawing;
+mod floats;
 mod grid;
 mod kinds;
 mod linear;
@@ -13,6 +14,7 @@ mod rival;
 mod stack;
 mod threads;
 mod verdict;
+mod words;
 
 use verdict::Mark;
 
@@ -24,6 +26,7 @@ const RUNS: usize = 21;
 enum Part {
     Pictures,
     Hdr,
+    Floats,
     Kinds,
     Calls,
     Linear,
@@ -32,9 +35,10 @@ enum Part {
 }
 
 impl Part {
-    const ALL: [Part; 7] = [
+    const ALL: [Part; 8] = [
         Part::Pictures,
         Part::Hdr,
+        Part::Floats,
         Part::Kinds,
         Part::Calls,
         Part::Linear,
@@ -46,6 +50,7 @@ impl Part {
         match self {
             Part::Pictures => "pictures",
             Part::Hdr => "hdr",
+            Part::Floats => "floats",
             Part::Kinds => "kinds",
             Part::Calls => "calls",
             Part::Linear => "linear",
@@ -58,6 +63,7 @@ impl Part {
         match self {
             Part::Pictures => pictures::LDR.measure(runs),
             Part::Hdr => pictures::HDR.measure(runs),
+            Part::Floats => floats::measure(runs),
             Part::Kinds => grid::measure(runs),
             Part::Calls => calls::measure(runs).map(|()| Vec::new()),
             Part::Linear => linear::measure(),

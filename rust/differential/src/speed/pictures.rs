@@ -1,10 +1,12 @@
 //! The drawn picture, as astcenc encodes it at each footprint.
 
 use super::drawing;
-use super::race::{Canvas, Race, Rates};
+use super::race::Race;
 use super::rival::{self, Profile, Rival};
 use super::verdict::{least, mean, Mark};
+use super::words::{Canvas, Rates, Words};
 use model::{answer, Layout, Shape, FOOTPRINTS, HDR_MODES};
+use std::sync::OnceLock;
 
 /// What the blocks of a picture are.
 #[derive(Default)]
@@ -71,25 +73,29 @@ fn ratios(all: &[Rates]) -> (Vec<f64>, Vec<f64>) {
 
 /// A drawing, and how it is encoded.
 pub struct Picture {
-    name: &'static str,
-    profile: Profile,
-    width: usize,
-    height: usize,
+    pub name: &'static str,
+    pub profile: Profile,
+    pub width: usize,
+    pub height: usize,
+    /// Its data at each footprint, once it was asked for.
+    data: OnceLock<Vec<Vec<u8>>>,
 }
 
-pub const LDR: Picture = Picture {
+pub static LDR: Picture = Picture {
     name: "the picture",
     profile: Profile::Ldr,
     width: 576,
     height: 384,
+    data: OnceLock::new(),
 };
 
 /// Smaller, since astcenc takes long for it.
-pub const HDR: Picture = Picture {
+pub static HDR: Picture = Picture {
     name: "the HDR picture",
     profile: Profile::Hdr,
     width: 480,
     height: 320,
+    data: OnceLock::new(),
 };
 
 impl Picture {
@@ -102,30 +108,50 @@ impl Picture {
         }
     }
 
-    /// The race at each footprint, and what the blocks are.
-    fn races(&self) -> (Vec<Race>, Mix) {
-        let drawn = drawing::drawn(self.width, self.height);
-        let mut mix = Mix::default();
-        let race = |footprint| {
-            let shape = self.shape(footprint);
-            let data = rival::encoded(&drawn, self.profile, shape);
-            mix.add(&data, shape);
-            Race::new(data, shape)
-        };
-        (FOOTPRINTS.map(race).into(), mix)
+    /// The data at each footprint.
+    fn data(&self) -> &[Vec<u8>] {
+        self.data.get_or_init(|| {
+            let drawn = drawing::drawn(self.width, self.height);
+            let encode = |f| rival::encoded(&drawn, self.profile, self.shape(f));
+            FOOTPRINTS.map(encode).into()
+        })
     }
 
-    /// The rates at all footprints. Each run goes through all of them, so that a time when the machine is busy falls on all.
-    fn rates(&self, races: &mut [Race], runs: usize) -> Result<Vec<Rates>, String> {
+    /// What the blocks are, at all footprints.
+    fn mix(&self) -> Mix {
+        let mut mix = Mix::default();
+        for (data, &footprint) in self.data().iter().zip(&FOOTPRINTS) {
+            mix.add(data, self.shape(footprint));
+        }
+        mix
+    }
+
+    /// The races at all footprints after so many runs, where each race takes a turn with astcenc's state for its footprint. A run goes
+    /// through all footprints, so that a time when the machine is busy falls on all.
+    pub fn races(
+        &self,
+        runs: usize,
+        mut turn: impl FnMut(&mut Race, Option<&mut Rival>) -> Result<(), String>,
+    ) -> Result<Vec<Race>, String> {
+        let data = self.data().iter().zip(FOOTPRINTS);
+        let race =
+            |(data, footprint): (&Vec<u8>, _)| Race::new(data.clone(), self.shape(footprint));
+        let mut races: Vec<_> = data.map(race).collect();
         let mut rivals = FOOTPRINTS.map(|f| Rival::new(f, self.profile));
-        let mut canvas = Canvas::new(self.width * self.height);
         for _ in 0..runs {
             for ((race, rival), (bw, bh)) in races.iter_mut().zip(&mut rivals).zip(FOOTPRINTS) {
-                race.turn(&mut canvas, rival.as_mut())
+                turn(race, rival.as_mut())
                     .map_err(|difference| format!("{} at {bw}x{bh}: {difference}", self.name))?;
             }
         }
-        Ok(races.iter().map(Race::rates).collect())
+        Ok(races)
+    }
+
+    /// The rates at all footprints.
+    fn rates(&self, runs: usize) -> Result<Vec<Rates>, String> {
+        let canvas = &mut Canvas::new(self.width * self.height);
+        let races = self.races(runs, |race, rival| race.turn(&mut Words { canvas, rival }))?;
+        Ok(races.iter().map(Rates::of).collect())
     }
 
     fn print(&self, all: &[Rates], runs: usize) {
@@ -155,19 +181,25 @@ impl Picture {
         }
     }
 
-    /// Times the picture at all footprints; the marks that are set for it.
-    pub fn measure(&self, runs: usize) -> Result<Vec<Mark>, String> {
+    /// Whether astcenc was there to encode it; says so if it was not.
+    pub fn is_there(&self) -> bool {
         if !rival::THERE {
             println!(
                 "\n{} is left out: astcenc, which encodes it, was not there to build with",
                 self.name
             );
+        }
+        rival::THERE
+    }
+
+    /// Times the picture at all footprints; the marks that are set for it.
+    pub fn measure(&self, runs: usize) -> Result<Vec<Mark>, String> {
+        if !self.is_there() {
             return Ok(Vec::new());
         }
-        let (mut races, mix) = self.races();
-        let all = self.rates(&mut races, runs)?;
+        let all = self.rates(runs)?;
         self.print(&all, runs);
-        mix.print();
+        self.mix().print();
         Ok(self.marks(&all))
     }
 }

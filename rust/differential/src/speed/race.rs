@@ -1,11 +1,7 @@
 //! The decoders' times for one image, in one process on one thread.
 
-use super::rival::Rival;
-use judge::archive;
 use model::Shape;
-use original::astc::decode_astc;
 use std::ffi::c_int;
-use std::hint::black_box;
 use std::ops::Range;
 use std::time::Duration;
 
@@ -43,31 +39,11 @@ pub fn timed(work: impl FnOnce()) -> Duration {
     processor_time() - start
 }
 
-/// Millions of texels a second.
-#[derive(Clone, Copy)]
-pub struct Rates {
-    pub ours: f64,
-    pub original: f64,
-    pub astcenc: Option<f64>,
-}
-
-impl Rates {
-    /// How often the original's speed ours is.
-    pub fn over_original(self) -> f64 {
-        self.ours / self.original
-    }
-
-    /// How often astcenc's speed ours is.
-    pub fn over_astcenc(self) -> Option<f64> {
-        self.astcenc.map(|astcenc| self.ours / astcenc)
-    }
-}
-
 /// Some rows of blocks, which are an image of their own, and the pixels of the whole image that they paint.
-struct Band<'a> {
-    data: &'a [u8],
-    shape: Shape,
-    pixels: Range<usize>,
+pub struct Band<'a> {
+    pub data: &'a [u8],
+    pub shape: Shape,
+    pub pixels: Range<usize>,
 }
 
 /// An image in bands of so many rows of blocks; the last may have fewer.
@@ -86,10 +62,22 @@ fn bands(data: &[u8], shape: Shape, rows: usize) -> impl Iterator<Item = Band<'_
 
 /// One of those that are timed.
 #[derive(Clone, Copy, PartialEq, Eq)]
-enum Decoder {
+pub enum Decoder {
     Ours,
     Original,
     Astcenc,
+}
+
+/// Decoders that paint images, each on an output of its own.
+pub trait Painters {
+    /// Those that are there.
+    fn decoders(&self) -> Vec<Decoder>;
+
+    /// Lets one of them paint a band; the processor's time that it takes.
+    fn paint(&mut self, decoder: Decoder, band: Band) -> Result<Duration, String>;
+
+    /// What is not alike in the painted images, if something is not.
+    fn compare(&self) -> Result<(), String>;
 }
 
 /// One decoder's best times for the bands of an image.
@@ -119,70 +107,6 @@ impl Best {
     }
 }
 
-/// What the decoders paint on. All races of images of one size share it.
-pub struct Canvas {
-    ours: Vec<u32>,
-    original: Vec<u32>,
-    astcenc: Vec<u8>,
-}
-
-impl Canvas {
-    pub fn new(pixels: usize) -> Self {
-        Canvas {
-            ours: vec![0; pixels],
-            original: vec![0; pixels],
-            astcenc: vec![0; 4 * pixels],
-        }
-    }
-
-    /// Lets a decoder paint a band; the processor's time that it takes.
-    fn paint(
-        &mut self,
-        decoder: Decoder,
-        band: Band,
-        rival: Option<&mut Rival>,
-    ) -> Result<Duration, String> {
-        let (data, shape, pixels) = (black_box(band.data), band.shape, band.pixels);
-        let (width, height, bw, bh) = (shape.width, shape.height, shape.bw, shape.bh);
-        match (decoder, rival) {
-            (Decoder::Ours, _) => {
-                let words = &mut self.ours[pixels];
-                let mut answer = 0;
-                let time = timed(|| answer = archive::decode_image(data, shape, words));
-                match answer {
-                    0 => Ok(time),
-                    _ => Err(format!("our answer is {answer}")),
-                }
-            }
-            (Decoder::Original, _) => {
-                let words = &mut self.original[pixels];
-                let mut outcome = Ok(());
-                let time = timed(|| outcome = decode_astc(data, width, height, bw, bh, words));
-                outcome.map(|()| time).map_err(String::from)
-            }
-            (Decoder::Astcenc, Some(rival)) => {
-                let bytes = &mut self.astcenc[4 * pixels.start..4 * pixels.end];
-                Ok(timed(|| rival.paint(data, shape, bytes)))
-            }
-            (Decoder::Astcenc, None) => Err("astcenc is not there".into()),
-        }
-    }
-
-    /// What is not alike in the painted images, if something is not.
-    ///
-    /// Ours and the original's words must be the same. astcenc rounds to eight bits in its own way, so that its bytes are held to
-    /// ours to within 1, and those of HDR blocks, of which it reads some in another way, are not compared.
-    fn compare(&self, rival: Option<&Rival>) -> Result<(), String> {
-        if self.ours != self.original {
-            return Err("our image is not the original's".into());
-        }
-        if rival.is_some_and(|rival| !rival.is_like(&self.astcenc, &self.ours)) {
-            return Err("our image is not astcenc's to within 1".into());
-        }
-        Ok(())
-    }
-}
-
 /// An image, and the decoders' best times for it so far.
 ///
 /// The decoders are timed in pieces of about the same length, and those of one turn are done side by side, from the first rows of
@@ -204,31 +128,21 @@ impl Race {
     }
 
     /// The decoders paint the image for the first time, which only finds how large their pieces are.
-    fn warm_up(
-        &mut self,
-        canvas: &mut Canvas,
-        mut rival: Option<&mut Rival>,
-    ) -> Result<(), String> {
+    fn warm_up(&mut self, painters: &mut impl Painters) -> Result<(), String> {
         let rows = self.shape.height.div_ceil(self.shape.bh);
-        let decoders = [Decoder::Ours, Decoder::Original, Decoder::Astcenc];
-        let there = if rival.is_some() { 3 } else { 2 };
-        for decoder in decoders.into_iter().take(there) {
+        for decoder in painters.decoders() {
             let whole = bands(&self.data, self.shape, rows).next();
             let whole = whole.ok_or("the image has no blocks")?;
-            let time = canvas.paint(decoder, whole, rival.as_deref_mut())?;
+            let time = painters.paint(decoder, whole)?;
             self.best.push(Best::new(decoder, self.shape, time));
         }
         Ok(())
     }
 
     /// Each decoder paints the image once; what differs, if something does.
-    pub fn turn(
-        &mut self,
-        canvas: &mut Canvas,
-        mut rival: Option<&mut Rival>,
-    ) -> Result<(), String> {
+    pub fn turn(&mut self, painters: &mut impl Painters) -> Result<(), String> {
         if self.best.is_empty() {
-            self.warm_up(canvas, rival.as_deref_mut())?;
+            self.warm_up(painters)?;
         }
         let mut pieces = Vec::new();
         for best in &mut self.best {
@@ -239,25 +153,18 @@ impl Race {
         }
         pieces.sort_by_key(|(_, _, band)| band.pixels.start + band.pixels.end);
         for (decoder, best, band) in pieces {
-            let time = canvas.paint(decoder, band, rival.as_deref_mut())?;
+            let time = painters.paint(decoder, band)?;
             *best = time.min(*best);
         }
         // in the next turn another is the first to read the data
         self.best.rotate_left(1);
-        canvas.compare(rival.as_deref())
+        painters.compare()
     }
 
-    /// The rates so far, after a turn or more.
-    pub fn rates(&self) -> Rates {
-        let rate = |decoder| {
-            let best = self.best.iter().find(|best| best.decoder == decoder);
-            best.map(|best| best.rate(self.shape))
-        };
-        Rates {
-            ours: rate(Decoder::Ours).expect("ours had its turn"),
-            original: rate(Decoder::Original).expect("the original had its turn"),
-            astcenc: rate(Decoder::Astcenc),
-        }
+    /// A decoder's millions of texels a second so far, if it had a turn.
+    pub fn rate(&self, decoder: Decoder) -> Option<f64> {
+        let best = self.best.iter().find(|best| best.decoder == decoder);
+        best.map(|best| best.rate(self.shape))
     }
 }
 

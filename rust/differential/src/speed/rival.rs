@@ -30,6 +30,9 @@ mod there {
 
     pub const THERE: bool = true;
 
+    /// From a byte to the next, as floats.
+    const STEP: f32 = 1.0 / 255.0;
+
     /// astcenc's state for images of one footprint and profile.
     pub struct Rival {
         context: Context,
@@ -47,6 +50,25 @@ mod there {
         /// Paints red, green, blue and alpha of each pixel, as bytes: that is what the other two make of HDR blocks too.
         pub fn paint(&mut self, data: &[u8], shape: Shape, bytes: &mut [u8]) {
             self.context.paint(data, (shape.width, shape.height), bytes);
+        }
+
+        /// Paints red, green, blue and alpha of each pixel, as floats.
+        pub fn paint_floats(&mut self, data: &[u8], shape: Shape, floats: &mut [f32]) {
+            self.context
+                .paint_floats(data, (shape.width, shape.height), floats);
+        }
+
+        /// Whether LDR floats are these to within a byte's step, and HDR ones are not below them by more.
+        pub fn is_like_floats(&self, theirs: &[f32], ours: &[f32]) -> bool {
+            let like = |(theirs, ours): (&f32, &f32)| {
+                let above = ours - theirs;
+                let least = match self.profile {
+                    Profile::Ldr => -STEP,
+                    Profile::Hdr => f32::NEG_INFINITY,
+                };
+                (least..=STEP).contains(&above)
+            };
+            theirs.iter().zip(ours).all(like)
         }
 
         /// Whether LDR bytes are these words to within 1 in each channel.
@@ -77,6 +99,14 @@ mod there {
         }
 
         pub fn paint(&mut self, _: &[u8], _: Shape, _: &mut [u8]) {
+            match *self {}
+        }
+
+        pub fn paint_floats(&mut self, _: &[u8], _: Shape, _: &mut [f32]) {
+            match *self {}
+        }
+
+        pub fn is_like_floats(&self, _: &[f32], _: &[f32]) -> bool {
             match *self {}
         }
 

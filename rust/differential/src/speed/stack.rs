@@ -106,7 +106,7 @@ fn images() -> Vec<(Vec<u8>, Shape)> {
 }
 
 /// The bytes of stack that each function uses, by name.
-fn functions() -> [(&'static str, usize); 4] {
+fn functions() -> [(&'static str, usize); 5] {
     let images = images();
     let room = images.iter().map(|(_, shape)| shape.pixels()).max();
     let out = &mut vec![0; room.expect("there are images")];
@@ -125,6 +125,15 @@ fn functions() -> [(&'static str, usize); 4] {
             }
         }
     });
+    let (numbers, marks) = (&mut [0; 4 * 144], &mut [0; 144]);
+    let channels = used(&mut || {
+        for (data, shape) in &images {
+            for block in data.chunks(16) {
+                let (bw, bh) = (shape.bw, shape.bh);
+                black_box(archive::block_channels(0, block, bw, bh, numbers, marks));
+            }
+        }
+    });
     let image = used(&mut || {
         for (data, shape) in &images {
             black_box(archive::decode_image(data, *shape, out));
@@ -140,17 +149,18 @@ fn functions() -> [(&'static str, usize); 4] {
     [
         ("astc_decode_block", block),
         ("astc_block_map", map),
+        ("astc_block_channels", channels),
         ("astc_decode_image", image),
         ("astc_image_step", step),
     ]
 }
 
-/// Measures the stack of the four functions; the mark on it.
+/// Measures the stack of the functions; the mark on it.
 pub fn measure() -> Vec<Mark> {
     println!("\nbytes of stack, at most, over blocks and images of all kinds at all footprints");
     let functions = functions();
     for (name, bytes) in functions {
-        println!("{name:<18}{bytes:>6}");
+        println!("{name:<20}{bytes:>6}");
     }
     let largest = most(&functions.map(|(_, bytes)| bytes as f64));
     vec![Mark::at_most("bytes of stack, most", largest, MOST as f64)]
