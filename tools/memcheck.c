@@ -10,9 +10,6 @@
 
 enum { BLOCK = 16, NUMBERS = 9, CHANNELS = 4, MOVED = 3, HEAD = 3 + BLOCK, FOOTPRINTS = 14, MARK = 0x5a };
 
-/* The answer to options that are not known. */
-enum { NOT_KNOWN = 23 };
-
 static const uint8_t SIDES[FOOTPRINTS][2] = {{4, 4}, {5, 4}, {5, 5}, {6, 5}, {6, 6}, {8, 5}, {8, 6}, {8, 8}, {10, 5}, {10, 6}, {10, 8}, {10, 10}, {12, 10}, {12, 12}};
 
 static unsigned long blocks, images, steps, refusals;
@@ -168,10 +165,10 @@ static void refuse_options_and_rooms(size_t bw, size_t bh) {
     refuse_channels(0, BLOCK, bw, bh, texels, texels, ASTC_OUTPUT_TOO_SHORT);
     refuse_channels(0, BLOCK, bw, bh, 0, 0, ASTC_OUTPUT_TOO_SHORT);
     for (size_t i = 0; i < sizeof OPTIONS / sizeof OPTIONS[0]; i++) {
-        refuse_channels(OPTIONS[i], BLOCK, bw, bh, numbers, texels, NOT_KNOWN);
-        refuse_channels(OPTIONS[i], BLOCK - 1, bw, bh, numbers, texels, NOT_KNOWN);
-        refuse_channels(OPTIONS[i], BLOCK, bw, bh, 0, 0, NOT_KNOWN);
-        refuse_channels(OPTIONS[i], 0, SIZE_MAX, bh, 0, 0, NOT_KNOWN);
+        refuse_channels(OPTIONS[i], BLOCK, bw, bh, numbers, texels, ASTC_OPTIONS);
+        refuse_channels(OPTIONS[i], BLOCK - 1, bw, bh, numbers, texels, ASTC_OPTIONS);
+        refuse_channels(OPTIONS[i], BLOCK, bw, bh, 0, 0, ASTC_OPTIONS);
+        refuse_channels(OPTIONS[i], 0, SIZE_MAX, bh, 0, 0, ASTC_OPTIONS);
     }
 }
 

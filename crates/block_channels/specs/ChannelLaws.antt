@@ -12,7 +12,7 @@ use Rattle.footprint.specs.Footprints.{texelsOf, mostTexels, listed}
 use Rattle.footprint.specs.Sides.{sides-of}
 use Rattle.footprint.specs.declared.Footprint.{Footprint}
 use Rattle.blend.specs.Blend.{crateByte}
-use Rattle.channels.specs.Channels.{finite, numberOf, marksOf, texelOf}
+use Rattle.channels.specs.Channels.{numberOf, marksOf, texelOf}
 use Rattle.channels.specs.declared.Sample.{Sample}
 use Rattle.channels.specs.declared.Samples.{Samples}
 use Rattle.channels.specs.declared.Texel.{Texel}
@@ -27,27 +27,27 @@ use Rattle.params_rules.specs.FieldLaws.{answer-lt, answer-void, void-alone}
 use Rattle.params.specs.Params.{paramsOf}
 use Rattle.params.specs.Laws.{answer-is}
 use Rattle.texels.specs.Texels.{blendedAt, sampleOf, texelSample}
-use Rattle.texels.specs.Samples.{laneOf, samplesIn}
+use Rattle.texels.specs.Samples.{laneBy, texelLane, samplesIn}
 use Rattle.texels.specs.SampleLaws.{sample-at}
 use Rattle.texels_numbers.specs.Numbers.{sampleIn, texelIn, channelAt, numbersBy, numbersFrom, marksFrom, numbersIn}
 use Rattle.texels_numbers.specs.NumberLaws.{read-byte, read-half, fours-same}
 use Rattle.block_void.specs.Void.{voidAnswer, voidSamples}
 use Rattle.block_void.specs.VoidLaws.{void-true}
 use Rattle.block_map.specs.Answer.{answerOf}
-use Rattle.block_ordinary.specs.Ordinary.{ordinarySample, lanesIn}
+use Rattle.block_ordinary.specs.Ordinary.{ordinarySample, ordinaryLane, lanesIn}
 use Rattle.block.specs.Block.{blockBits, outcomeOf}
 use Rattle.block.specs.declared.Outcome.{Outcome}
 use Rattle.block_channels.specs.BlockChannels.{magentaSamples, samplesBy, ordinarySamples, blockSamples, numberAt, marksAt, roomOf, numbersOf, marksIn, answeredAt, refusedBy, texelAnswered}
 use Rattle.block_channels.specs.declared.Answered.{Answered}
 
 -- ---- samples are read from lanes as they were put
-read-sample : (m : Mark) (c : ℕ) → sampleIn (laneOf (sampleOf m c)) ≡ sampleOf m c
+read-sample : (m : Mark) (c : ℕ) → sampleIn (laneBy m c) ≡ sampleOf m c
 unfolding crateByte
 read-sample Ldr c = read-byte (crateByte c) (omega arith)
-read-sample Hdr c = read-half (finite c)
+read-sample Hdr c = read-half c
 
-read-texel : (ends : List Endpoints) (weights map : List ℕ) (planes channel t k : ℕ) → sampleIn (laneOf (texelSample ends weights map planes channel t k)) ≡ texelSample ends weights map planes channel t k
-unfolding texelSample
+read-texel : (ends : List Endpoints) (weights map : List ℕ) (planes channel t k : ℕ) → sampleIn (texelLane ends weights map planes channel t k) ≡ texelSample ends weights map planes channel t k
+unfolding texelLane texelSample
 read-texel ends weights map planes channel t k = let c = blendedAt ends weights map planes channel t k in read-sample (c .mark) (c .value)
 
 -- ---- by the block's kind
@@ -64,8 +64,8 @@ module _ (v : ℕ) (foot : Footprint) where
   pub samples-bad : (a : ℕ) → isVoid v ≡ false → a ≡ answer (fieldsOf v) foot → (a ≡ 0 → ⊥) → (t : ℕ) → blockSamples v foot t ≡ magentaSamples
   samples-bad a h e n t = samples-one a (sym e) n t ∙ rw (ne-eqb a 1 (λ z. void-alone v foot h (sym e ∙ z)))
 
-  read-ordinary : (t k : ℕ) → sampleIn (laneOf (ordinarySample (paramsOf v foot) v foot t k)) ≡ ordinarySample (paramsOf v foot) v foot t k
-  unfolding ordinarySample
+  read-ordinary : (t k : ℕ) → sampleIn (ordinaryLane (paramsOf v foot) v foot t k) ≡ ordinarySample (paramsOf v foot) v foot t k
+  unfolding ordinaryLane ordinarySample
   read-ordinary t k = read-texel _ _ _ _ _ t k
 
   module _ (l : listed foot ≡ true) (lanes : List ℕ) (d : lanes ≡ lanesIn SamplesForm v foot (replicate mostLanes 0)) (z : 0 ≡ answer (fieldsOf v) foot) where
@@ -75,7 +75,7 @@ module _ (v : ℕ) (foot : Footprint) where
     lane-is : (t k : ℕ) → t < texelsOf foot → k < 4 → sampleIn (getD lanes (mostTexels * k + t) 0) ≡ ordinarySample (paramsOf v foot) v foot t k
     unfolding lanesIn
     lane-is t k h b =
-        let f = ordinarySample (paramsOf v foot) v foot in
+        let f = ordinaryLane (paramsOf v foot) v foot in
         let e : lanes ≡ samplesIn (texelsOf foot) f (replicate mostLanes 0) = d ∙ rw (eq-eqb (paramsOf v foot .answer) 0 told) in
         ap (λ (x : List ℕ). sampleIn (getD x (mostTexels * k + t) 0)) e
         ∙ ap sampleIn (sample-at (texelsOf foot) f (replicate mostLanes 0) t k (length-replicate {A = ℕ} mostLanes 0) (sides-of foot l .texels) h b)

@@ -24,7 +24,7 @@ use Rattle.weights_grid.specs.declared.Grid.{Grid}
 use Rattle.partition.specs.Partition.{partitionAt}
 use Rattle.channels.specs.declared.Sample.{Sample}
 use Rattle.texels.specs.Texels.{texelWord, texelSample}
-use Rattle.texels.specs.Samples.{samplesIn}
+use Rattle.texels.specs.Samples.{texelLane, samplesIn}
 
 -- ---- a legal block, of its parameters p and two more fields
 -- the endpoints of its partitions, from the endpoint field
@@ -56,11 +56,16 @@ unfoldable pub ordinarySample : Params → ℕ → Footprint → ℕ → ℕ →
 ordinarySample p v foot t k =
     texelSample (endsOf p (endsField p v)) (weightsIn p foot (weightsField p v)) (partitionsIn p foot) (p .config .planes) (p .channel) t k
 
+-- and the lane that it stands in
+unfoldable pub ordinaryLane : Params → ℕ → Footprint → ℕ → ℕ → ℕ
+ordinaryLane p v foot t k =
+    texelLane (endsOf p (endsField p v)) (weightsIn p foot (weightsField p v)) (partitionsIn p foot) (p .config .planes) (p .channel) t k
+
 -- ---- the code's step
 -- the lanes h with those of a legal block's texels, to the next multiple of 8: their words, or their samples
 abbrev pub formOf : Form → Params → ℕ → Footprint → List ℕ → List ℕ
 formOf Words p v foot h = put (laneAt (ordinaryWord p v foot)) 0 (2 * eights (texelsOf foot)) h
-formOf Samples p v foot h = samplesIn (texelsOf foot) (ordinarySample p v foot) h
+formOf Samples p v foot h = samplesIn (texelsOf foot) (ordinaryLane p v foot) h
 
 -- the same of any block: one that is not legal puts none
 unfoldable pub lanesIn : Form → ℕ → Footprint → List ℕ → List ℕ

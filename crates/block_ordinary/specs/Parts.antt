@@ -39,9 +39,9 @@ use Rattle.weights.specs.Weights.{weightsOf}
 use Rattle.partition.specs.Partition.{partitionAt}
 use Rattle.partition.specs.PartitionLaws.{partition-below}
 use Rattle.texels.specs.Given.{Given as PaintGiven}
-use Rattle.texels.specs.Texels.{texelWord, texelSample}
-use Rattle.texels.specs.Samples.{samplesIn}
-use Rattle.block_ordinary.specs.Ordinary.{endsOf, gridOf, countOf, weightsIn, partitionsIn, ordinaryWord, ordinarySample, formOf, lanesIn}
+use Rattle.texels.specs.Texels.{texelWord}
+use Rattle.texels.specs.Samples.{texelLane, samplesIn}
+use Rattle.block_ordinary.specs.Ordinary.{endsOf, gridOf, countOf, weightsIn, partitionsIn, ordinaryWord, ordinaryLane, formOf, lanesIn}
 use Rattle.block_ordinary.specs.Facts.{Facts, Ready}
 
 -- ---- a range that a call is given
@@ -136,8 +136,8 @@ module _ (p : Params) (v : ℕ) (foot : Footprint) (n : ℕ) (ends : List Endpoi
   unfolding ordinaryWord
   words-put q d = d ∙ rw (q, a, b, c, e)
 
-  pub samples-put : form ≡ Samples → out ≡ samplesIn n (texelSample ends w parts (p .config .planes) (p .channel)) s → out ≡ formOf form p v foot s
-  unfolding ordinarySample
+  pub samples-put : form ≡ Samples → out ≡ samplesIn n (texelLane ends w parts (p .config .planes) (p .channel)) s → out ≡ formOf form p v foot s
+  unfolding ordinaryLane
   samples-put q d = d ∙ rw (q, a, b, c, e)
 
 -- ---- the code has put the lanes of a legal block, or none

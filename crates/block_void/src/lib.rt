@@ -75,7 +75,8 @@ fn byte_sample(b: Block, at: usize) -> Sample
 pub fn void_samples(b: Block) -> Samples
     ensures { λ r. ⌜ r ≡ voidSamples (valueOf b) ⌝ }
 {
-    if bits::getbits(b, 9, 1) == 1 {
+    let form = bits::getbits(b, 9, 1);
+    if form == 1 {
         return Samples {
             r: half_sample(b, 64),
             g: half_sample(b, 80),

@@ -7,9 +7,8 @@ use native.Mathlib.Omega.{arith}
 use lib.ListN.{getD, length}
 use Rattle.laws.specs.Lists.{putAt, put-in, put-before, put-same, length-putAt}
 use Rattle.footprint.specs.Footprints.{mostTexels}
-use Rattle.channels.specs.declared.Sample.{Sample}
 use Rattle.lanes.specs.Lanes.{mostLanes, eights}
-use Rattle.texels.specs.Samples.{laneOf, channelIn, samplesIn}
+use Rattle.texels.specs.Samples.{channelIn, samplesIn}
 
 -- ---- values from a place on
 at-in : (f : ℕ → ℕ) (o n i : ℕ) (s : List ℕ) → o + i < length s → i < n → getD (putAt f o n s) (o + i) 0 ≡ f i
@@ -27,13 +26,13 @@ unfolding putAt
 at-same f g o n s same = put-same _ _ o (o + n) s (λ k l h. same (k - o) (omega arith))
 
 -- ---- the samples of n texels
-module _ (n : ℕ) (f : ℕ → ℕ → Sample) (s : List ℕ) where
+module _ (n : ℕ) (f : ℕ → ℕ → ℕ) (s : List ℕ) where
   pub length-samples : length (samplesIn n f s) ≡ length s
   unfolding samplesIn
   length-samples = length-putAt _ 432 (eights n) _ ∙ length-putAt _ 288 (eights n) _ ∙ length-putAt _ 144 (eights n) _ ∙ length-putAt _ 0 (eights n) s
 
   -- sample k of texel i
-  pub sample-at : (i k : ℕ) → length s ≡ mostLanes → n ≤ mostTexels → i < n → k < 4 → getD (samplesIn n f s) (mostTexels * k + i) 0 ≡ laneOf (f i k)
+  pub sample-at : (i k : ℕ) → length s ≡ mostLanes → n ≤ mostTexels → i < n → k < 4 → getD (samplesIn n f s) (mostTexels * k + i) 0 ≡ f i k
   unfolding samplesIn
   sample-at i k e l h b = go k b
     where
@@ -55,25 +54,21 @@ module _ (n : ℕ) (f : ℕ → ℕ → Sample) (s : List ℕ) where
       blue-long : length blue ≡ 576
       blue-long = length-putAt _ 288 (eights n) green ∙ green-long
 
-      go : (k : ℕ) → k < 4 → getD (channelIn 432 n (λ (j : ℕ). f j 3) blue) (mostTexels * k + i) 0 ≡ laneOf (f i k)
+      go : (k : ℕ) → k < 4 → getD (channelIn 432 n (λ (j : ℕ). f j 3) blue) (mostTexels * k + i) 0 ≡ f i k
       go zero b =
           at-before _ 432 (eights n) (mostTexels * 0 + i) blue (omega (arith, blue-long)) (omega arith)
           ∙ at-before _ 288 (eights n) (mostTexels * 0 + i) green (omega (arith, green-long)) (omega arith)
           ∙ at-before _ 144 (eights n) (mostTexels * 0 + i) red (omega (arith, red-long)) (omega arith)
-          ∙ at-in (λ (j : ℕ). laneOf (f j 0)) 0 (eights n) i s (omega (arith, e)) (omega arith)
+          ∙ at-in (λ (j : ℕ). f j 0) 0 (eights n) i s (omega (arith, e)) (omega arith)
       go (suc zero) b =
           at-before _ 432 (eights n) (mostTexels * 1 + i) blue (omega (arith, blue-long)) (omega arith)
           ∙ at-before _ 288 (eights n) (mostTexels * 1 + i) green (omega (arith, green-long)) (omega arith)
-          ∙ at-in (λ (j : ℕ). laneOf (f j 1)) 144 (eights n) i red (omega (arith, red-long)) (omega arith)
+          ∙ at-in (λ (j : ℕ). f j 1) 144 (eights n) i red (omega (arith, red-long)) (omega arith)
       go (suc (suc zero)) b =
           at-before _ 432 (eights n) (mostTexels * 2 + i) blue (omega (arith, blue-long)) (omega arith)
-          ∙ at-in (λ (j : ℕ). laneOf (f j 2)) 288 (eights n) i green (omega (arith, green-long)) (omega arith)
-      go (suc (suc (suc zero))) b = at-in (λ (j : ℕ). laneOf (f j 3)) 432 (eights n) i blue (omega (arith, blue-long)) (omega arith)
+          ∙ at-in (λ (j : ℕ). f j 2) 288 (eights n) i green (omega (arith, green-long)) (omega arith)
+      go (suc (suc (suc zero))) b = at-in (λ (j : ℕ). f j 3) 432 (eights n) i blue (omega (arith, blue-long)) (omega arith)
       go (suc (suc (suc (suc k)))) b = absurd (four b)
         where
           four : {k : ℕ} → suc (suc (suc (suc k))) < 4 → ⊥
           four h = omega arith
-
--- a channel's samples, one after the other, are those that they equal
-pub channel-is : (at n : ℕ) (f : ℕ → ℕ) (g : ℕ → Sample) (s out : List ℕ) → ((i : ℕ) → i < eights n → f i ≡ laneOf (g i)) → out ≡ putAt f at (eights n) s → out ≡ channelIn at n g s
-channel-is at n f g s out same h = h ∙ at-same f _ at (eights n) s same

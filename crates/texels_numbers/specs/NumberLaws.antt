@@ -8,11 +8,10 @@ use native.Mathlib.Omega.{arith}
 use lib.ListN.{getD}
 use borrow.Author.Tests.{lt-ltb, le-ltb}
 use Rattle.laws.specs.Lists.{put, put-turn, put-same}
-use Rattle.channels.specs.Channels.{numberOf}
+use Rattle.channels.specs.Channels.{finite, numberOf}
 use Rattle.channels.specs.declared.Sample.{Sample}
 use Rattle.channels.specs.declared.Sample.the-variants.{Byte, Half}
 use Rattle.channels.specs.declared.Samples.{Samples}
-use Rattle.texels.specs.Samples.{laneOf}
 use Rattle.texels_numbers.specs.Numbers.{sampleIn, texelIn, channelAt, fours, fourAt, numbersIn}
 
 -- ---- a lane
@@ -20,20 +19,20 @@ pub lane-byte : (x : ℕ) → x < 32768 → Byte (x % 256) ≡ sampleIn x
 unfolding sampleIn
 lane-byte x h = rw (lt-ltb x 32768 h)
 
-pub lane-half : (x : ℕ) → 32768 ≤ x → Half (x - 32768) ≡ sampleIn x
+pub lane-half : (x h : ℕ) → 32768 ≤ x → h ≡ finite (x - 32768) → Half h ≡ sampleIn x
 unfolding sampleIn
-lane-half x h = rw (le-ltb x 32768 h)
+lane-half x h l e = rw (le-ltb x 32768 l, e)
 
 -- a byte, or a half with no sign, is read as it was put
-pub read-byte : (b : ℕ) → b ≤ 255 → sampleIn (laneOf (Byte b)) ≡ Byte b
+pub read-byte : (b : ℕ) → b ≤ 255 → sampleIn b ≡ Byte b
 read-byte b h =
     let e : b % 256 ≡ b = omega arith in
     sym (lane-byte b (omega arith)) ∙ ap Byte e
 
-pub read-half : (h : ℕ) → sampleIn (laneOf (Half h)) ≡ Half h
+pub read-half : (h : ℕ) → sampleIn (32768 + h) ≡ Half (finite h)
 read-half h =
     let e : 32768 + h - 32768 ≡ h = omega arith in
-    sym (lane-half (32768 + h) (omega arith)) ∙ ap Half e
+    sym (lane-half (32768 + h) (finite h) (omega arith) (rw e))
 
 -- the four lanes of a texel
 pub texel-is : (lanes : List ℕ) (i : ℕ) {r g b a : Sample} → r ≡ sampleIn (getD lanes i 0) → g ≡ sampleIn (getD lanes (144 + i) 0) → b ≡ sampleIn (getD lanes (288 + i) 0) → a ≡ sampleIn (getD lanes (432 + i) 0)

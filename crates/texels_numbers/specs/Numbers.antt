@@ -6,14 +6,14 @@ use Prim.Native.Nat.{ℕ, _+_, _-_, _*_, _/_, _%_}
 use lib.Dec.{ltb}
 use lib.ListN.{getD, set}
 use Rattle.footprint.specs.Footprints.{mostTexels}
-use Rattle.channels.specs.Channels.{numberOf, marksOf}
+use Rattle.channels.specs.Channels.{finite, numberOf, marksOf}
 use Rattle.channels.specs.declared.Sample.{Sample}
 use Rattle.channels.specs.declared.Sample.the-variants.{Byte, Half}
 use Rattle.channels.specs.declared.Samples.{Samples}
 
 -- the sample that a lane holds
 unfoldable pub sampleIn : ℕ → Sample
-sampleIn x = cond (ltb x 32768) (Byte (x % 256)) (Half (x - 32768))
+sampleIn x = cond (ltb x 32768) (Byte (x % 256)) (Half (finite (x - 32768)))
 
 -- channel k of texel i, from the lanes
 abbrev pub channelIn : List ℕ → ℕ → ℕ → Sample

@@ -4,7 +4,7 @@ ghost use Prim.Native.Nat.{ℕ, _+_, _*_, _≤_, _<_};
 ghost use lib.ListN.{getD, length};
 ghost use Rattle.laws.specs.Lists.{put};
 ghost use Rattle.footprint.specs.Footprints.{mostTexels};
-ghost use Rattle.channels.specs.Channels.{numberOf, marksOf};
+ghost use Rattle.channels.specs.Channels.{finite as finiteOf, marksOf};
 ghost use Rattle.texels_numbers.specs.Numbers.{sampleIn, texelIn, fourAt, numbersIn, numbersFrom, marksFrom};
 use channels::Sample;
 use channels::Samples;
@@ -13,6 +13,13 @@ use channels::number_of;
 use footprint::TEXELS;
 use lanes::LANES;
 
+// The largest finite half in place of infinity and of every NaN, for halves with no sign.
+fn finite(h: u16) -> u16
+    ensures { λ r. ⌜ r ≡ finiteOf h ⌝ }
+{
+    if h < 0x7bff { h } else { 0x7bff }
+}
+
 // The sample that a lane holds.
 fn sample_of(x: u16) -> Sample
     ensures { λ r. ⌜ r ≡ sampleIn x ⌝ }
@@ -20,7 +27,7 @@ fn sample_of(x: u16) -> Sample
     if x < 0x8000 {
         Sample::Byte((x % 256) as u8)
     } else {
-        Sample::Half(x - 0x8000)
+        Sample::Half(finite(x - 0x8000))
     }
 }
 

@@ -11,16 +11,15 @@ use borrow.Author.Tests.{eq-eqb, ne-eqb}
 use Rattle.laws.specs.Lists.{putAt}
 use Rattle.footprint.specs.Footprints.{mostTexels}
 use Rattle.blend.specs.Blend.{ldrChannel, hdrHalf}
-use Rattle.channels.specs.Channels.{finite}
 use Rattle.endpoints_colours.specs.Bounds.{Within, limit}
 use Rattle.endpoints_colours.specs.Colours.{nothing, markOf, firstOf, secondOf}
 use Rattle.endpoints_colours.specs.declared.Mark.{Mark}
 use Rattle.endpoints_colours.specs.declared.Mark.the-variants.{Ldr, Hdr}
 use Rattle.endpoints_colours.specs.declared.Endpoints.{Endpoints}
 use Rattle.lanes.specs.Lanes.{mostLanes, eights}
-use Rattle.texels.specs.Texels.{blendBy, sampleOf, texelSample, planeOf}
-use Rattle.texels.specs.Samples.{laneOf, channelIn, samplesIn}
-use Rattle.texels.specs.SampleLaws.{at-same, channel-is}
+use Rattle.texels.specs.Texels.{blendBy, planeOf}
+use Rattle.texels.specs.Samples.{laneBy, texelLane, channelIn, samplesIn}
+use Rattle.texels.specs.SampleLaws.{at-same}
 use Rattle.texels.specs.Given.{Given}
 use Rattle.texels_samples.specs.Planes.{hdrOf, limitBy, sampleLane, pairOf, pairsOf, pick, hdrIn, firstIn, secondIn, Bounded, oneAt, anyAt}
 use Rattle.texels_samples.specs.declared.Pair.{Pair}
@@ -38,9 +37,9 @@ module _ (hdr v0 v1 w : ℕ) where
   unfolding sampleLane
   ldr-is r z h = rw (eq-eqb hdr 0 z) h
 
-  pub hdr-is : (h f : ℕ) → (hdr ≡ 0 → ⊥) → h ≡ hdrHalf v0 v1 w → f ≡ finite h → 32768 + f ≡ sampleLane hdr v0 v1 w
+  pub hdr-is : (h : ℕ) → (hdr ≡ 0 → ⊥) → h ≡ hdrHalf v0 v1 w → 32768 + h ≡ sampleLane hdr v0 v1 w
   unfolding sampleLane
-  hdr-is h f n e d = rw (ne-eqb hdr 0 n, d, e)
+  hdr-is h n e = rw (ne-eqb hdr 0 n, e)
 
 -- ---- a channel's ends
 -- those of partition p
@@ -77,7 +76,7 @@ pub one-any : (parts at n x : ℕ) (s : Pairs) (weights map out o : List ℕ) �
 one-any parts at n x s weights map out o e mapped h =
     h ∙ at-same _ _ at (eights n) o (λ i l. let z : getD map i 0 ≡ 0 = omega (arith, mapped i) in rw z)
 
-lane-is : (m : Mark) (v0 v1 w : ℕ) → sampleLane (hdrOf m) v0 v1 w ≡ laneOf (sampleOf m (blendBy m v0 v1 w))
+lane-is : (m : Mark) (v0 v1 w : ℕ) → sampleLane (hdrOf m) v0 v1 w ≡ laneBy m (blendBy m v0 v1 w)
 unfolding sampleLane
 lane-is Ldr v0 v1 w = refl
 lane-is Hdr v0 v1 w = refl
@@ -90,8 +89,8 @@ pub any-is : (s : Pairs) (p w : ℕ) {x y h r : ℕ} → h ≡ hdrIn s p → x �
 any-is s p w eh ex ey d = d ∙ rw (eh, ex, ey)
 
 module _ (n parts planes channel : ℕ) (ends : List Endpoints) (weights map : List ℕ) (given : Given n parts planes ends weights map) where
-  texel-lane : (k x i : ℕ) → x ≡ mostTexels * planeOf planes channel k → anyAt (pairsOf ends k) weights map x i ≡ laneOf (texelSample ends weights map planes channel i k)
-  unfolding texelSample
+  texel-lane : (k x i : ℕ) → x ≡ mostTexels * planeOf planes channel k → anyAt (pairsOf ends k) weights map x i ≡ texelLane ends weights map planes channel i k
+  unfolding texelLane
   texel-lane k x i e =
       let p = getD map i 0 in
       let b : p < 4 = omega (arith, given .mapped i, given .four) in
@@ -100,15 +99,14 @@ module _ (n parts planes channel : ℕ) (ends : List Endpoints) (weights map : L
 
   -- channel k of the texels
   pub channel-put : (k at x : ℕ) (s : Pairs) (o out : List ℕ) → s ≡ pairsOf ends k → x ≡ mostTexels * planeOf planes channel k → out ≡ putAt (anyAt s weights map x) at (eights n) o
-      → out ≡ channelIn at n (λ (i : ℕ). texelSample ends weights map planes channel i k) o
+      → out ≡ channelIn at n (λ (i : ℕ). texelLane ends weights map planes channel i k) o
   channel-put k at x s o out q e h =
-      channel-is at n (anyAt s weights map x) (λ (i : ℕ). texelSample ends weights map planes channel i k) o out
-      (λ i l. ap (λ (z : Pairs). anyAt z weights map x i) q ∙ texel-lane k x i e) h
+      h ∙ at-same _ _ at (eights n) o (λ i l. ap (λ (z : Pairs). anyAt z weights map x i) q ∙ texel-lane k x i e)
 
   -- and all four
-  pub all-put : (o r g b a : List ℕ) → r ≡ channelIn 0 n (λ (i : ℕ). texelSample ends weights map planes channel i 0) o → g ≡ channelIn 144 n (λ (i : ℕ). texelSample ends weights map planes channel i 1) r
-      → b ≡ channelIn 288 n (λ (i : ℕ). texelSample ends weights map planes channel i 2) g → a ≡ channelIn 432 n (λ (i : ℕ). texelSample ends weights map planes channel i 3) b
-      → a ≡ samplesIn n (texelSample ends weights map planes channel) o
+  pub all-put : (o r g b a : List ℕ) → r ≡ channelIn 0 n (λ (i : ℕ). texelLane ends weights map planes channel i 0) o → g ≡ channelIn 144 n (λ (i : ℕ). texelLane ends weights map planes channel i 1) r
+      → b ≡ channelIn 288 n (λ (i : ℕ). texelLane ends weights map planes channel i 2) g → a ≡ channelIn 432 n (λ (i : ℕ). texelLane ends weights map planes channel i 3) b
+      → a ≡ samplesIn n (texelLane ends weights map planes channel) o
   unfolding samplesIn
   all-put o r g b a er eg eb ea = ea ∙ rw (eb, eg, er)
 

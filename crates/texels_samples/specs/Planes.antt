@@ -6,7 +6,6 @@ use Prim.Native.Nat.{ℕ, _+_, _<_}
 use lib.Dec.{eqb}
 use lib.ListN.{getD}
 use Rattle.blend.specs.Blend.{ldrChannel, hdrHalf}
-use Rattle.channels.specs.Channels.{finite}
 use Rattle.endpoints_colours.specs.Colours.{nothing, markOf, firstOf, secondOf}
 use Rattle.endpoints_colours.specs.declared.Mark.{Mark}
 use Rattle.endpoints_colours.specs.declared.Mark.the-variants.{Ldr, Hdr}
@@ -25,7 +24,7 @@ limitBy hdr = cond (eqb hdr 0) 256 4096
 
 -- the sample between two ends, as a lane
 unfoldable pub sampleLane : ℕ → ℕ → ℕ → ℕ → ℕ
-sampleLane hdr v0 v1 w = cond (eqb hdr 0) (ldrChannel v0 v1 w) (32768 + finite (hdrHalf v0 v1 w))
+sampleLane hdr v0 v1 w = cond (eqb hdr 0) (ldrChannel v0 v1 w) (32768 + hdrHalf v0 v1 w)
 
 -- the ends of channel k
 abbrev pub pairOf : Endpoints → ℕ → Pair

@@ -5,10 +5,8 @@ ghost use lib.ListN.{getD};
 ghost use Rattle.laws.specs.Lists.{putAt};
 ghost use Rattle.footprint.specs.Footprints.{mostTexels};
 ghost use Rattle.endpoints_colours.specs.Colours.{nothing};
-ghost use Rattle.channels.specs.Channels.{finite as finiteOf};
 ghost use Rattle.lanes.specs.Lanes.{eights};
-ghost use Rattle.texels.specs.Texels.{texelSample};
-ghost use Rattle.texels.specs.Samples.{samplesIn};
+ghost use Rattle.texels.specs.Samples.{texelLane, samplesIn};
 ghost use Rattle.texels.specs.Given.{Given};
 ghost use Rattle.texels_samples.specs.Planes.{hdrOf, limitBy, sampleLane, pairOf, pairsOf, Bounded, oneAt, anyAt};
 use endpoints_colours::Endpoints;
@@ -48,13 +46,6 @@ fn long(x: u16) -> u32
     x as u32
 }
 
-// The largest finite half in place of infinity and of every NaN, for halves with no sign.
-fn finite(h: u16) -> u16
-    ensures { λ r. ⌜ (r ≡ finiteOf h) × (r < 31744) ⌝ }
-{
-    if h < 0x7bff { h } else { 0x7bff }
-}
-
 // One sample as a lane: a byte, or 32768 and a half.
 fn sample(hdr: u16, v0: u16, v1: u16, w: u8) -> u16
     requires { ⌜ (v0 < limitBy hdr) × (v1 < limitBy hdr) × (w ≤ 64) ⌝ }
@@ -63,7 +54,7 @@ fn sample(hdr: u16, v0: u16, v1: u16, w: u8) -> u16
     if hdr == 0 {
         blend::select_color_byte(v0, v1, wide(w))
     } else {
-        0x8000 + finite(blend::select_half(long(v0), long(v1), long(wide(w))))
+        0x8000 + blend::select_half(long(v0), long(v1), long(wide(w)))
     }
 }
 
@@ -214,7 +205,7 @@ pub fn put_samples<'a>(
     map: &'a [u8; TEXELS],
 )
     requires { ⌜ Given n parts planes ends (now w) (now map) ⌝ }
-    ensures { λ _. ⌜ now (out .exit) ≡ samplesIn n (texelSample ends (now (w .entry)) (now (map .entry)) planes channel) (now (out .entry)) ⌝ }
+    ensures { λ _. ⌜ now (out .exit) ≡ samplesIn n (texelLane ends (now (w .entry)) (now (map .entry)) planes channel) (now (out .entry)) ⌝ }
 {
     let k = starts_of(planes, channel);
     put_channel(out, 0, n, parts, w, k.r, map, pairs_of(ends, 0));

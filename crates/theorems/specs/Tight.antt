@@ -59,8 +59,8 @@ use Rattle.channels.specs.declared.Sample.{Sample}
 use Rattle.channels.specs.declared.Samples.{Samples}
 use Rattle.channels.specs.declared.Texel.{Texel}
 use Rattle.lanes.specs.declared.Form.{Form}
-use Rattle.texels.specs.Texels.{texelWord, texelSample}
-use Rattle.texels.specs.Samples.{samplesIn}
+use Rattle.texels.specs.Texels.{texelWord}
+use Rattle.texels.specs.Samples.{texelLane, samplesIn}
 use Rattle.texels_numbers.specs.Numbers.{texelIn, numbersFrom, marksFrom, numbersIn}
 use Rattle.texels.specs.Kinds.{startsOf, Ahead, eitherOf, anyOf}
 use Rattle.texels.specs.declared.Starts.{Starts}
@@ -358,8 +358,8 @@ reduced c rule = one ℕ (reducedBy rule c)
 pub select-half : (v0 v1 weight : ℕ) → Tight ℕ (λ r. (r ≡ hdrHalf v0 v1 weight) × (r < 32768))
 select-half v0 v1 weight r s p q = p .0 ∙ sym (q .0)
 
-pub put-samples : (n planes channel : ℕ) (ends : List Endpoints) (w map s : List ℕ) → Tight (List ℕ) (λ out. out ≡ samplesIn n (texelSample ends w map planes channel) s)
-put-samples n planes channel ends w map s = one (List ℕ) (samplesIn n (texelSample ends w map planes channel) s)
+pub put-samples : (n planes channel : ℕ) (ends : List Endpoints) (w map s : List ℕ) → Tight (List ℕ) (λ out. out ≡ samplesIn n (texelLane ends w map planes channel) s)
+put-samples n planes channel ends w map s = one (List ℕ) (samplesIn n (texelLane ends w map planes channel) s)
 
 pub samples-at : (lanes : List ℕ) (i : ℕ) → Tight Samples (λ r. r ≡ texelIn lanes i)
 samples-at lanes i = one Samples (texelIn lanes i)

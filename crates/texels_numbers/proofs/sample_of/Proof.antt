@@ -8,11 +8,14 @@ use Rattle.texels_numbers.proofs.sample_of.Tie as tie
 cast-t5 : tie.Need-cast-t5
 cast-t5 c = search needs
 
+finite-requires : tie.Need-finite-requires
+finite-requires c κs = search needs
+
 returns : tie.Need-returns
 returns c = lane-byte _ (c .if1 .taken)
 
 returns-2 : tie.Need-returns-2
-returns-2 c = lane-half _ (omega (arith, c .if1 .left))
+returns-2 c = lane-half _ _ (omega (arith, c .before .if1 .left)) (c .finite .ensures)
 
 pub sample-of-spec : {M : Type 1} → statement M
-sample-of-spec = tie.close (tie.spec cast-t5 returns returns-2)
+sample-of-spec = tie.close (tie.spec cast-t5 finite-requires returns returns-2)

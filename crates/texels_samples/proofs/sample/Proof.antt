@@ -32,9 +32,6 @@ select-half-requires c κs =
     let n = c .before .before .before .before .if1 .left in
     (rw (c .before .before .before .long .ensures) (hdr-limit _ (s .args .v0) (s .args .v1) (s .args .w) n (s .pre .0)), (rw (c .before .before .long2 .ensures) (hdr-limit _ (s .args .v0) (s .args .v1) (s .args .w) n (s .pre .1)), omega (arith, c .long3 .ensures, c .before .wide2 .ensures .0, s .pre .2)))
 
-finite-requires : tie.Need-finite-requires
-finite-requires c κs = search needs
-
 add-result : tie.Need-add-result
 add-result c = search needs
 
@@ -43,9 +40,9 @@ returns c = ldr-is _ _ _ _ _ (c .before .before .if1 .taken) (rw (c .before .wid
 
 returns-2 : tie.Need-returns-2
 returns-2 c =
-    let called = c .before .before in
-    hdr-is _ _ _ _ _ _ (c .before .before .before .before .before .before .if1 .left)
-    (rw (called .before .before .before .long .ensures, called .before .before .long2 .ensures, called .long3 .ensures, called .before .wide2 .ensures .0) at (c .before .select-half .ensures .0)) (c .finite .ensures .0)
+    let called = c .before in
+    hdr-is _ _ _ _ _ (c .before .before .before .before .before .if1 .left)
+    (rw (called .before .before .before .long .ensures, called .before .before .long2 .ensures, called .long3 .ensures, called .before .wide2 .ensures .0) at (c .select-half .ensures .0))
 
 pub sample-spec : {M : Type 1} → statement M
 sample-spec =
@@ -58,7 +55,6 @@ sample-spec =
     wide-requires-2
     long-requires-3
     select-half-requires
-    finite-requires
     add-result
     returns
     returns-2)
