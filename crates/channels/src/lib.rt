@@ -1,11 +1,10 @@
-// A channel of a texel as it is answered, a byte or a float. It is decoded as a byte or as a half; here is what that comes to: the enum's
-// value, the number that C reads, and the byte that it is reduced to.
+// A channel of a texel as it is answered, a byte or a float. It is decoded as a byte or as a half; here are the value that is answered and the
+// byte that it is reduced to.
 ghost use mathlib.Core.Path.{_≡_};
 ghost use mathlib.Core.Bool.{not};
-ghost use Prim.Native.Nat.{_<_};
 ghost use lib.Dec.{T};
 ghost use lib.Ieee.{binary32, nanBits, ofBits};
-ghost use Rattle.channels.specs.Channels.{floatBits, channelOf, numberOf, texelOf, markOf, marksOf, byteOf, reducedBy};
+ghost use Rattle.channels.specs.Channels.{channelOf, texelOf, byteOf, reducedBy};
 
 // A channel as it is decoded: a byte, or the pattern of a half.
 pub enum Sample {
@@ -41,17 +40,6 @@ pub enum Rule {
     Void,
 }
 
-// The 32 bits of the float that equals the half h, and of a NaN those that C is promised.
-fn float_bits(h: u16) -> u32
-    ensures { λ r. ⌜ r ≡ floatBits h ⌝ }
-{
-    let n = h as u32;
-    if n % 32768 > 0x7c00 {
-        return n / 32768 * 0x8000_0000 + 0x7fc0_0000;
-    }
-    f32::to_bits(half::fp16_ieee_to_fp32_value(h))
-}
-
 fn channel_of(s: Sample) -> Channel
     ensures { λ r. ⌜ r ≡ channelOf s ⌝ }
 {
@@ -75,36 +63,6 @@ pub fn texel_of(s: Samples) -> Texel
         b: channel_of(b),
         a: channel_of(a),
     }
-}
-
-// A channel as the number that C reads.
-pub fn number_of(s: Sample) -> u32
-    ensures { λ r. ⌜ r ≡ numberOf s ⌝ }
-{
-    match s {
-        Sample::Byte(b) => b as u32,
-        Sample::Half(h) => float_bits(h),
-    }
-}
-
-fn mark_of(s: Sample) -> u8
-    ensures { λ r. ⌜ (r ≡ markOf s) × (r < 2) ⌝ }
-{
-    match s {
-        Sample::Byte(_) => 0,
-        Sample::Half(_) => 1,
-    }
-}
-
-// Which of a texel's channels are floats: 1 for red, 2 for green, 4 for blue, 8 for alpha.
-pub fn marks_of(s: Samples) -> u8
-    ensures { λ r. ⌜ r ≡ marksOf s ⌝ }
-{
-    let r = s.r;
-    let g = s.g;
-    let b = s.b;
-    let a = s.a;
-    mark_of(r) + 2 * mark_of(g) + 4 * mark_of(b) + 8 * mark_of(a)
 }
 
 // The byte of the float with the pattern b, which is no NaN. The float is less than 1 below the pattern 0x3f80_0000, and its byte is 0 below

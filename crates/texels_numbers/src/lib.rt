@@ -4,14 +4,53 @@ ghost use Prim.Native.Nat.{ℕ, _+_, _*_, _≤_, _<_};
 ghost use lib.ListN.{getD, length};
 ghost use Rattle.laws.specs.Lists.{put};
 ghost use Rattle.footprint.specs.Footprints.{mostTexels};
-ghost use Rattle.channels.specs.Channels.{finite as finiteOf, marksOf};
+ghost use Rattle.channels.specs.Channels.{finite as finiteOf, floatBits, numberOf, markOf, marksOf};
 ghost use Rattle.texels_numbers.specs.Numbers.{sampleIn, texelIn, fourAt, numbersIn, numbersFrom, marksFrom};
 use channels::Sample;
 use channels::Samples;
-use channels::marks_of;
-use channels::number_of;
 use footprint::TEXELS;
 use lanes::LANES;
+
+// The 32 bits of the float that equals the half h, and of a NaN those that C is promised.
+fn float_bits(h: u16) -> u32
+    ensures { λ r. ⌜ r ≡ floatBits h ⌝ }
+{
+    let n = h as u32;
+    if n % 32768 > 0x7c00 {
+        return n / 32768 * 0x8000_0000 + 0x7fc0_0000;
+    }
+    f32::to_bits(half::fp16_ieee_to_fp32_value(h))
+}
+
+// A channel as the number that C reads.
+fn number_of(s: Sample) -> u32
+    ensures { λ r. ⌜ r ≡ numberOf s ⌝ }
+{
+    match s {
+        Sample::Byte(b) => b as u32,
+        Sample::Half(h) => float_bits(h),
+    }
+}
+
+fn mark_of(s: Sample) -> u8
+    ensures { λ r. ⌜ (r ≡ markOf s) × (r < 2) ⌝ }
+{
+    match s {
+        Sample::Byte(_) => 0,
+        Sample::Half(_) => 1,
+    }
+}
+
+// Which of a texel's channels are floats: 1 for red, 2 for green, 4 for blue, 8 for alpha.
+fn marks_of(s: Samples) -> u8
+    ensures { λ r. ⌜ r ≡ marksOf s ⌝ }
+{
+    let r = s.r;
+    let g = s.g;
+    let b = s.b;
+    let a = s.a;
+    mark_of(r) + 2 * mark_of(g) + 4 * mark_of(b) + 8 * mark_of(a)
+}
 
 // The largest finite half in place of infinity and of every NaN, for halves with no sign.
 fn finite(h: u16) -> u16

@@ -52,10 +52,9 @@ use Rattle.weights_infill.specs.Infill.{infillOf}
 use Rattle.weights.specs.Weights.{weightsOf}
 use Rattle.partition.specs.Partition.{partitionAt}
 use Rattle.blend.specs.Blend.{ldrChannel, hdrHalf, hdrChannel, wordOf}
-use Rattle.channels.specs.Channels.{texelOf, numberOf, marksOf, reducedBy}
+use Rattle.channels.specs.Channels.{texelOf, marksOf, reducedBy}
 use Rattle.channels.specs.declared.Channel.{Channel}
 use Rattle.channels.specs.declared.Rule.{Rule}
-use Rattle.channels.specs.declared.Sample.{Sample}
 use Rattle.channels.specs.declared.Samples.{Samples}
 use Rattle.channels.specs.declared.Texel.{Texel}
 use Rattle.lanes.specs.declared.Form.{Form}
@@ -345,12 +344,6 @@ decode-astc-block s f o = both ℕ (List ℕ) (answerOf s f (length o)) (painted
 -- ---- channels
 pub texel-of : (s : Samples) → Tight Texel (λ r. r ≡ texelOf s)
 texel-of s = one Texel (texelOf s)
-
-pub number-of : (s : Sample) → Tight ℕ (λ r. r ≡ numberOf s)
-number-of s = one ℕ (numberOf s)
-
-pub marks-of : (s : Samples) → Tight ℕ (λ r. r ≡ marksOf s)
-marks-of s = one ℕ (marksOf s)
 
 pub reduced : (c : Channel) (rule : Rule) → Tight ℕ (λ r. r ≡ reducedBy rule c)
 reduced c rule = one ℕ (reducedBy rule c)

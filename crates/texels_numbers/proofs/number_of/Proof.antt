@@ -1,9 +1,9 @@
--- `channels::number_of` meets its contract: each arm is told what the sample is. Assumes nothing.
+-- `texels_numbers::number_of` meets its contract: each arm is told what the sample is. Assumes nothing.
 use mathlib.Core.Path.{sym, ap, _∙_}
 use Rattle.channels.specs.Channels.{numberOf}
 use borrow.Author.Needs.{needs}
-use Rattle.channels.proofs.number_of.Statement.{statement}
-use Rattle.channels.proofs.number_of.Tie as tie
+use Rattle.texels_numbers.proofs.number_of.Statement.{statement}
+use Rattle.texels_numbers.proofs.number_of.Tie as tie
 
 enum-known-s : tie.Need-enum-known-s
 enum-known-s c = search needs

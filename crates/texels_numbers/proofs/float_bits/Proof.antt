@@ -1,9 +1,9 @@
--- `channels::float_bits` meets its contract by its two ways out. Assumes nothing.
+-- `texels_numbers::float_bits` meets its contract by its two ways out. Assumes nothing.
 use native.Mathlib.Omega.{arith}
 use Rattle.channels.specs.ChannelLaws.{half-no-nan, ret-nan-bits, ret-float-bits}
 use borrow.Author.Needs.{needs}
-use Rattle.channels.proofs.float_bits.Statement.{statement}
-use Rattle.channels.proofs.float_bits.Tie as tie
+use Rattle.texels_numbers.proofs.float_bits.Statement.{statement}
+use Rattle.texels_numbers.proofs.float_bits.Tie as tie
 
 mul-result : tie.Need-mul-result
 mul-result c = search needs
