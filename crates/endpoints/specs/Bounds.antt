@@ -14,7 +14,7 @@ use Rattle.endpoints_colours.specs.Bounds.{limit, Within}
 use Rattle.endpoints_rules.specs.Ldr.{offsetOf, clampedPair, luminance, luminanceOffset, luminanceAlphaOffset, scaled, direct, offset}
 use Rattle.endpoints_rules.specs.Hdr.{rgb, alphas, opaque, hdr, less, grey, luminanceLarge, luminanceSmall, swapped, sevenLess, hdr7}
 use Rattle.endpoints_rules.specs.Hdr11.{elevenMajor, under, elevenFirst, elevenSecond, hdr11, plainAlphas, offsetAlphas, hdrAlphas}
-use Rattle.endpoints_hdr.specs.Hdr11Laws.{alphas-0, alphas-1, alphas-2}
+use Rattle.endpoints_hdr_eleven.specs.Hdr11Laws.{alphas-0, alphas-1, alphas-2}
 use Rattle.endpoints_rules.specs.Modes.{byMode, endpointsOf}
 use Rattle.endpoints.specs.Endpoints.{valuesAt, countTo, partitionEndpoints, endpointsList}
 use Rattle.endpoints_colours.specs.declared.Mark.the-variants.{Hdr}

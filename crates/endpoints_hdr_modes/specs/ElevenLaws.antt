@@ -11,8 +11,8 @@ use Rattle.endpoints_colours.specs.declared.Values.{Values}
 use Rattle.endpoints_rules.specs.Hdr.{rgb, hdr, less, swapped}
 use Rattle.endpoints_rules.specs.Hdr11.{elevenMode, elevenMajor, hdr11}
 use Rattle.endpoints_rules.specs.declared.Rgb.{Rgb}
-use Rattle.endpoints_hdr.specs.Hdr11Laws.{elevenOf, base-small, first-is, second-is}
-use Rattle.endpoints_hdr.specs.declared.Eleven.{Eleven}
+use Rattle.endpoints_hdr_eleven.specs.Hdr11Laws.{elevenOf, base-small, first-is, second-is}
+use Rattle.endpoints_hdr_eleven.specs.declared.Eleven.{Eleven}
 
 -- the values that mode 11 reads are bytes
 pub record Bytes (v : Values) : Type 0 where

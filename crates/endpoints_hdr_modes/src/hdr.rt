@@ -2,7 +2,7 @@
 ghost use mathlib.Core.Path.{_≡_};
 ghost use Prim.Native.Nat.{_≤_, _<_, min};
 ghost use Rattle.endpoints_rules.specs.Hdr.{hdr, grey, rgb, alphas, less, swapped, luminanceLarge, luminanceSmall, sevenMajor, sevenMode, sevenLess, hdr7};
-ghost use Rattle.endpoints_hdr.specs.HdrLaws.{Below};
+ghost use Rattle.endpoints_hdr_seven.specs.HdrLaws.{Below};
 use endpoints_colours::Alphas;
 use endpoints_colours::Endpoints;
 use endpoints_colours::Mark;
@@ -143,7 +143,7 @@ pub(crate) fn decode_endpoints_hdr7(v0: u8, v1: u8, v2: u8, v3: u8) -> Endpoints
     let n = v0 / 64 + v1 / 128 * 4 + v2 / 128 * 8;
     let mode = mode_seven(n);
     let major = major_seven(n);
-    let c = endpoints_hdr::parts_of_seven(mode, v0, v1, v2, v3);
+    let c = endpoints_hdr_seven::parts_of_seven(mode, v0, v1, v2, v3);
     set_endpoint_hdr(
         swap(major, less_seven(mode, c, c.s)),
         swap(major, less_seven(mode, c, 0)),

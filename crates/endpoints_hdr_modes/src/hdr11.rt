@@ -5,13 +5,13 @@ ghost use Prim.Native.Nat.{_+_, _<_};
 ghost use lib.Dec.{eqb};
 ghost use Rattle.endpoints_rules.specs.Hdr.{rgb, alphas, opaque, less};
 ghost use Rattle.endpoints_rules.specs.Hdr11.{hdr11, plainAlphas, offsetAlphas, hdrAlphas};
-ghost use Rattle.endpoints_hdr.specs.Hdr11Laws.{Small};
+ghost use Rattle.endpoints_hdr_eleven.specs.Hdr11Laws.{Small};
 use crate::hdr;
 use endpoints_colours::Alphas;
 use endpoints_colours::Endpoints;
 use endpoints_colours::Mark;
 use endpoints_colours::Values;
-use endpoints_hdr::Eleven;
+use endpoints_hdr_eleven::Eleven;
 use endpoints_rules::Rgb;
 
 fn first_eleven(e: Eleven) -> Rgb
@@ -43,7 +43,7 @@ pub(crate) fn decode_endpoints_hdr11(v: Values, t: Alphas) -> Endpoints
             t,
         );
     }
-    let e = endpoints_hdr::parts_of_eleven(v.v1 / 128 + v.v2 / 128 * 2 + v.v3 / 128 * 4, v);
+    let e = endpoints_hdr_eleven::parts_of_eleven(v.v1 / 128 + v.v2 / 128 * 2 + v.v3 / 128 * 4, v);
     hdr::set_endpoint_hdr(
         hdr::swap(major, first_eleven(e)),
         hdr::swap(major, second_eleven(e)),

@@ -40,9 +40,9 @@ use Rattle.endpoints_colours.specs.declared.Values.{Values}
 use Rattle.endpoints_rules.specs.Hdr.{sevenOf}
 use Rattle.endpoints_rules.specs.Modes.{endpointsOf}
 use Rattle.endpoints_rules.specs.declared.Seven.{Seven}
-use Rattle.endpoints_hdr.specs.HdrLaws.{Below}
-use Rattle.endpoints_hdr.specs.Hdr11Laws.{elevenOf, Small}
-use Rattle.endpoints_hdr.specs.declared.Eleven.{Eleven}
+use Rattle.endpoints_hdr_seven.specs.HdrLaws.{Below}
+use Rattle.endpoints_hdr_eleven.specs.Hdr11Laws.{elevenOf, Small}
+use Rattle.endpoints_hdr_eleven.specs.declared.Eleven.{Eleven}
 use Rattle.endpoints.specs.Endpoints.{endpointsList}
 use Rattle.weights_unquantise.specs.Unquantise.{weightOf}
 use Rattle.weights_unquantise.specs.Forms.{each}

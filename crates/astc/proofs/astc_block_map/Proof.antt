@@ -16,7 +16,7 @@ same-length : tie.Need-same-length
 same-length c = search needs
 
 returns : tie.Need-returns
-returns c = search needs
+returns c = c .before .before .put-map .ensures
 
 pub astc-block-map-spec : {M : Type 1} → statement M
 astc-block-map-spec =

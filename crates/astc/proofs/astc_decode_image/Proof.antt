@@ -16,7 +16,7 @@ same-length : tie.Need-same-length
 same-length c = search needs
 
 returns : tie.Need-returns
-returns c = search needs
+returns c = c .before .before .decode-astc .ensures
 
 pub astc-decode-image-spec : {M : Type 1} → statement M
 astc-decode-image-spec = tie.close (tie.spec decode-astc-requires cast-result same-length returns)

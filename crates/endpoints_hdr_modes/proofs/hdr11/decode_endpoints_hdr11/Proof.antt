@@ -5,7 +5,7 @@ use native.Mathlib.Omega.{arith}
 use borrow.Author.Tests.{eq-eqb}
 use Rattle.endpoints_rules.specs.Hdr11.{elevenMode, elevenMajor, hdr11}
 use Rattle.endpoints_hdr_modes.specs.ElevenLaws.{Bytes, mode-lt, eleven-out}
-use Rattle.endpoints_hdr.specs.BitLaws.{fits, under, low-7, times-fits}
+use Rattle.endpoints_rules.specs.BitLaws.{fits, under, low-7, times-fits}
 use borrow.Author.Needs.{needs}
 use Rattle.endpoints_hdr_modes.proofs.hdr11.decode_endpoints_hdr11.Statement.{statement}
 use Rattle.endpoints_hdr_modes.proofs.hdr11.decode_endpoints_hdr11.Tie as tie

@@ -1,7 +1,7 @@
 -- Each sub-mode is the definition at its number.
 use mathlib.Core.Path.{_∙_}
 use native.Mathlib.Omega.{arith}
-use Rattle.endpoints_hdr.specs.Hdr11Laws.{alphas-0, alphas-1, alphas-2}
+use Rattle.endpoints_hdr_eleven.specs.Hdr11Laws.{alphas-0, alphas-1, alphas-2}
 use borrow.Author.Needs.{needs}
 use Rattle.endpoints_hdr_modes.proofs.hdr11.offset_alphas.Statement.{statement}
 use Rattle.endpoints_hdr_modes.proofs.hdr11.offset_alphas.Tie as tie

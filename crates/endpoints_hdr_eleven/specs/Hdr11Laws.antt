@@ -14,10 +14,10 @@ use lib.Pow.{pow-pos, pow-mono, mod-pow-add}
 use borrow.Author.Tests.{lt-ltb, le-ltb}
 use Rattle.endpoints_rules.specs.Hdr.{given, less, rgb, alphas}
 use Rattle.endpoints_colours.specs.declared.Mark.the-variants.{Hdr}
-use Rattle.endpoints_hdr.specs.HdrLaws.{low-6, low-7}
+use Rattle.endpoints_rules.specs.BitLaws.{bits-6, bits-7}
 use Rattle.endpoints_rules.specs.Hdr11.{crateOffset, elevenRows, offsetBits, elevenPart, elevenA, elevenB0, elevenB1, elevenC, elevenD0, elevenD1, up, under, elevenFirst, elevenSecond, offsetAlphas}
 use Rattle.endpoints_colours.specs.declared.Values.{Values}
-use Rattle.endpoints_hdr.specs.declared.Eleven.{Eleven}
+use Rattle.endpoints_hdr_eleven.specs.declared.Eleven.{Eleven}
 
 -- ---- closed forms
 unfoldable pub bases : Values → List ℕ
@@ -123,15 +123,15 @@ module _ (v : Values) where
   pub d0-is : (m : ℕ) → m < 8 → elevenD0 m v ≡ v .v4 % 2 ^ getD offsetBits m 0
   unfolding elevenPart given elevenRows offsetBits
   d0-is =
-      let s : v .v4 % 64 ≡ v .v4 % 32 + v .v4 / 32 % 2 * 32 = low-6 (v .v4) in
-      let t : v .v4 % 128 ≡ v .v4 % 32 + v .v4 / 32 % 2 * 32 + v .v4 / 64 % 2 * 64 = low-7 (v .v4) in
+      let s : v .v4 % 64 ≡ v .v4 % 32 + v .v4 / 32 % 2 * 32 = bits-6 (v .v4) in
+      let t : v .v4 % 128 ≡ v .v4 % 32 + v .v4 / 32 % 2 * 32 + v .v4 / 64 % 2 * 64 = bits-7 (v .v4) in
       below-8 _ (omega arith) (omega arith) (omega arith) (omega arith) (omega arith) (omega arith) (omega arith) (omega arith)
 
   pub d1-is : (m : ℕ) → m < 8 → elevenD1 m v ≡ v .v5 % 2 ^ getD offsetBits m 0
   unfolding elevenPart given elevenRows offsetBits
   d1-is =
-      let s : v .v5 % 64 ≡ v .v5 % 32 + v .v5 / 32 % 2 * 32 = low-6 (v .v5) in
-      let t : v .v5 % 128 ≡ v .v5 % 32 + v .v5 / 32 % 2 * 32 + v .v5 / 64 % 2 * 64 = low-7 (v .v5) in
+      let s : v .v5 % 64 ≡ v .v5 % 32 + v .v5 / 32 % 2 * 32 = bits-6 (v .v5) in
+      let t : v .v5 % 128 ≡ v .v5 % 32 + v .v5 / 32 % 2 * 32 + v .v5 / 64 % 2 * 64 = bits-7 (v .v5) in
       below-8 _ (omega arith) (omega arith) (omega arith) (omega arith) (omega arith) (omega arith) (omega arith) (omega arith)
 
 pub base-small : (v : Values) → v .v0 < 256 → (m : ℕ) → m < 8 → up m (getD (bases v) m 0) < 4096

@@ -1,10 +1,10 @@
--- `endpoints_hdr::parts_of_eleven`: each component is a closed form, scaled; the products are small. Assumes nothing.
+-- `endpoints_hdr_eleven::parts_of_eleven`: each component is a closed form, scaled; the products are small. Assumes nothing.
 use lib.Dec.{lit≤, lit<}
-use Rattle.endpoints_hdr.specs.BitLaws.{under, less-fits, product-fits, product-lt}
-use Rattle.endpoints_hdr.specs.Hdr11Laws.{elevenOf}
+use Rattle.endpoints_rules.specs.BitLaws.{under, less-fits, product-fits, product-lt}
+use Rattle.endpoints_hdr_eleven.specs.Hdr11Laws.{elevenOf}
 use borrow.Author.Needs.{needs}
-use Rattle.endpoints_hdr.proofs.parts_of_eleven.Statement.{statement}
-use Rattle.endpoints_hdr.proofs.parts_of_eleven.Tie as tie
+use Rattle.endpoints_hdr_eleven.proofs.parts_of_eleven.Statement.{statement}
+use Rattle.endpoints_hdr_eleven.proofs.parts_of_eleven.Tie as tie
 
 scale-requires : tie.Need-scale-requires
 scale-requires c κs = search needs

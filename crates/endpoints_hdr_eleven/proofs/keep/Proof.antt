@@ -1,8 +1,8 @@
 -- The cases of the closed form.
 use native.Mathlib.Omega.{arith}
 use borrow.Author.Tests.{lt-ltb, le-ltb}
-use Rattle.endpoints_hdr.proofs.keep.Statement.{statement}
-use Rattle.endpoints_hdr.proofs.keep.Tie as tie
+use Rattle.endpoints_hdr_eleven.proofs.keep.Statement.{statement}
+use Rattle.endpoints_hdr_eleven.proofs.keep.Tie as tie
 
 returns : tie.Need-returns
 returns c = (rw (lt-ltb _ _ (c .if1 .taken)), omega arith)

@@ -1,9 +1,10 @@
--- Bits at their places: each is at most its place, and so are their sums.
+-- Laws of bits at their places: each is at most its place, and so are their sums; and the low bits of a byte one by one.
 -- Assumes nothing.
 use mathlib.Core.Path.{_≡_}
 use Prim.Native.Nat.{ℕ, _+_, _*_, _/_, _%_, _≤_, _<_}
 use native.Mathlib.Nat.{one-mul, mul-le-mul, mul-le-mul-right}
 use native.Mathlib.Omega.{arith}
+use lib.Pow.{mod-pow-add}
 use mir.Val.{Fits}
 use mir.Syntax.{w16}
 
@@ -25,6 +26,16 @@ low-6 x = omega arith
 
 pub low-7 : (x : ℕ) → x % 128 ≤ 127
 low-7 x = omega arith
+
+-- low bits of a byte, with the bits above them one by one
+pub bits-6 : (v : ℕ) → v % 64 ≡ v % 32 + v / 32 % 2 * 32
+bits-6 v = omega (arith, mod-pow-add v 1 5)
+
+pub bits-7 : (v : ℕ) → v % 128 ≡ v % 32 + v / 32 % 2 * 32 + v / 64 % 2 * 64
+bits-7 v = omega (arith, mod-pow-add v 1 6, bits-6 v)
+
+pub bits-8 : (v : ℕ) → v < 256 → v ≡ v % 32 + v / 32 % 2 * 32 + v / 64 % 2 * 64 + v / 128 % 2 * 128
+bits-8 v h = omega (arith, bits-7 v)
 
 -- the top bit of a byte
 pub top-le : {s : ℕ} (k : ℕ) → s < 256 → s / 128 * k ≤ k

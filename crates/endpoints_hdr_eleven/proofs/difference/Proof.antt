@@ -1,10 +1,10 @@
 -- Each sub-mode is an entry of the closed form.
 use mathlib.Core.Logic.{⊎-elim}
 use native.Mathlib.Omega.{arith}
-use Rattle.endpoints_hdr.specs.Hdr11Laws.{differences, difference-rest}
+use Rattle.endpoints_hdr_eleven.specs.Hdr11Laws.{differences, difference-rest}
 use borrow.Author.Needs.{needs}
-use Rattle.endpoints_hdr.proofs.difference.Statement.{statement}
-use Rattle.endpoints_hdr.proofs.difference.Tie as tie
+use Rattle.endpoints_hdr_eleven.proofs.difference.Statement.{statement}
+use Rattle.endpoints_hdr_eleven.proofs.difference.Tie as tie
 
 mul-result : tie.Need-mul-result
 mul-result c = search needs

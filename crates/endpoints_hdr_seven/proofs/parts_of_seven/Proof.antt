@@ -1,11 +1,11 @@
--- `endpoints_hdr::parts_of_seven`: each sub-mode is a row of the table, and its sums of bits are small. Assumes nothing.
+-- `endpoints_hdr_seven::parts_of_seven`: each sub-mode is a row of the table, and its sums of bits are small. Assumes nothing.
 use Prim.Native.Nat.{_+_, _*_, _/_, _%_, _≤_, _<_}
 use lib.Dec.{lit≤, lit<}
-use Rattle.endpoints_hdr.specs.BitLaws.{fits, bit-le, top-le, under, low-6, low-5, low-7, sum-le, scaled-lt}
+use Rattle.endpoints_rules.specs.BitLaws.{fits, bit-le, top-le, under, low-6, low-5, low-7, sum-le, scaled-lt}
 use native.Mathlib.Omega.{arith}
-use Rattle.endpoints_hdr.specs.HdrLaws.{seven-0, seven-1, seven-2, seven-3, seven-4, seven-5}
-use Rattle.endpoints_hdr.proofs.parts_of_seven.Statement.{statement}
-use Rattle.endpoints_hdr.proofs.parts_of_seven.Tie as tie
+use Rattle.endpoints_hdr_seven.specs.HdrLaws.{seven-0, seven-1, seven-2, seven-3, seven-4, seven-5}
+use Rattle.endpoints_hdr_seven.proofs.parts_of_seven.Statement.{statement}
+use Rattle.endpoints_hdr_seven.proofs.parts_of_seven.Tie as tie
 
 byte : (c : tie.Start) → c .args .v3 < 256
 byte c = omega arith

@@ -2,8 +2,8 @@
 use mathlib.Core.Path.{_≡_, refl}
 use Prim.Native.Nat.{_/_}
 use native.Mathlib.Omega.{arith}
-use Rattle.endpoints_hdr.proofs.scale.Statement.{statement}
-use Rattle.endpoints_hdr.proofs.scale.Tie as tie
+use Rattle.endpoints_hdr_eleven.proofs.scale.Statement.{statement}
+use Rattle.endpoints_hdr_eleven.proofs.scale.Tie as tie
 
 returns : tie.Need-returns
 returns c = rw (c .match .keys1) (refl, omega arith)

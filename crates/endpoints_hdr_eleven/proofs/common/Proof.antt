@@ -1,10 +1,10 @@
 -- Each sub-mode is an entry of the closed form.
 use mathlib.Core.Path.{refl}
 use native.Mathlib.Omega.{arith}
-use Rattle.endpoints_hdr.specs.Hdr11Laws.{commons, common-rest}
+use Rattle.endpoints_hdr_eleven.specs.Hdr11Laws.{commons, common-rest}
 use borrow.Author.Needs.{needs}
-use Rattle.endpoints_hdr.proofs.common.Statement.{statement}
-use Rattle.endpoints_hdr.proofs.common.Tie as tie
+use Rattle.endpoints_hdr_eleven.proofs.common.Statement.{statement}
+use Rattle.endpoints_hdr_eleven.proofs.common.Tie as tie
 
 cast-c : tie.Need-cast-c
 cast-c c = search needs

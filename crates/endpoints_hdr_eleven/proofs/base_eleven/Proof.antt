@@ -1,12 +1,12 @@
--- `endpoints_hdr::base_eleven`: each sub-mode is an entry of the closed form, and its sum of bits is small. Assumes nothing.
+-- `endpoints_hdr_eleven::base_eleven`: each sub-mode is an entry of the closed form, and its sum of bits is small. Assumes nothing.
 use Prim.Native.Nat.{_+_, _*_, _/_, _%_, _≤_, _<_}
 use native.Mathlib.Omega.{arith}
-use Rattle.endpoints_hdr.specs.Hdr11Laws.{bases, base-rest, base-out}
-use Rattle.endpoints_hdr.specs.BitLaws.{fits, bit-le, under, sum-le}
+use Rattle.endpoints_hdr_eleven.specs.Hdr11Laws.{bases, base-rest, base-out}
+use Rattle.endpoints_rules.specs.BitLaws.{fits, bit-le, under, sum-le}
 use lib.Dec.{lit≤}
 use borrow.Author.Needs.{needs}
-use Rattle.endpoints_hdr.proofs.base_eleven.Statement.{statement}
-use Rattle.endpoints_hdr.proofs.base_eleven.Tie as tie
+use Rattle.endpoints_hdr_eleven.proofs.base_eleven.Statement.{statement}
+use Rattle.endpoints_hdr_eleven.proofs.base_eleven.Tie as tie
 
 byte : (c : tie.Start) → c .args .v .v0 < 256
 byte c = omega arith

@@ -2,10 +2,10 @@
 use mathlib.Core.Path.{_∙_}
 use mathlib.Core.Logic.{⊎-elim}
 use native.Mathlib.Omega.{arith}
-use Rattle.endpoints_hdr.specs.Hdr11Laws.{offsets, offset-rest}
+use Rattle.endpoints_hdr_eleven.specs.Hdr11Laws.{offsets, offset-rest}
 use borrow.Author.Needs.{needs}
-use Rattle.endpoints_hdr.proofs.offset.Statement.{statement}
-use Rattle.endpoints_hdr.proofs.offset.Tie as tie
+use Rattle.endpoints_hdr_eleven.proofs.offset.Statement.{statement}
+use Rattle.endpoints_hdr_eleven.proofs.offset.Tie as tie
 
 keep-requires : tie.Need-keep-requires
 keep-requires c κs = search needs

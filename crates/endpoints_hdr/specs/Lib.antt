@@ -1,3 +1,0 @@
-pub mod BitLaws
-pub mod HdrLaws
-pub mod Hdr11Laws
