@@ -1,9 +1,9 @@
 -- The laws of a block's channels: what its lanes and its one colour come to, and the ways out of the entry points.
 -- Assumes nothing.
 use mathlib.Core.Path.{_≡_, refl, sym, ap, _∙_}
-use mathlib.Core.Bool.{Bool, true, false, cond}
+use mathlib.Core.Bool.{true, false}
 use mathlib.Core.List.{List}
-use Prim.Native.Nat.{ℕ, _+_, _*_, _/_, _≤_, _<_, min}
+use Prim.Native.Nat.{ℕ, _+_, _*_, _≤_, _<_}
 use native.Mathlib.Omega.{arith}
 use lib.ListN.{getD, length, replicate, length-replicate}
 use borrow.Author.Tests.{eq-eqb, ne-eqb, lt-ltb, le-ltb}
@@ -13,7 +13,6 @@ use Rattle.footprint.specs.Sides.{sides-of}
 use Rattle.footprint.specs.declared.Footprint.{Footprint}
 use Rattle.blend.specs.Blend.{crateByte}
 use Rattle.channels.specs.Channels.{numberOf, marksOf, texelOf}
-use Rattle.channels.specs.declared.Sample.{Sample}
 use Rattle.channels.specs.declared.Samples.{Samples}
 use Rattle.channels.specs.declared.Texel.{Texel}
 use Rattle.endpoints_colours.specs.declared.Mark.{Mark}
@@ -37,7 +36,7 @@ use Rattle.block_map.specs.Answer.{answerOf}
 use Rattle.block_ordinary.specs.Ordinary.{ordinarySample, ordinaryLane, lanesIn}
 use Rattle.block.specs.Block.{blockBits, outcomeOf}
 use Rattle.block.specs.declared.Outcome.{Outcome}
-use Rattle.block_channels.specs.BlockChannels.{magentaSamples, samplesBy, ordinarySamples, blockSamples, numberAt, marksAt, roomOf, numbersOf, marksIn, answeredAt, refusedBy, texelAnswered}
+use Rattle.block_channels.specs.BlockChannels.{magentaSamples, samplesBy, blockSamples, numberAt, marksAt, roomOf, numbersOf, marksIn, answeredAt, refusedBy, texelAnswered}
 use Rattle.block_channels.specs.declared.Answered.{Answered}
 
 -- ---- samples are read from lanes as they were put

@@ -11,7 +11,6 @@ use Rattle.params_low.specs.Low.{isVoid}
 use Rattle.blend.specs.Blend.{wordOf}
 use Rattle.channels.specs.declared.Sample.{Sample}
 use Rattle.channels.specs.declared.Sample.the-variants.{Byte, Half}
-use Rattle.channels.specs.declared.Samples.{Samples}
 use Rattle.block_void.specs.Void.{voidAnswer, voidWord, voidSample, voidSamples}
 
 -- ---- the answer

@@ -3,7 +3,6 @@ use mathlib.Core.Path.{_≡_, refl, sym, ap, _∙_, subst}
 use mathlib.Core.Bool.{Bool, true, false, cond, not}
 use Prim.Native.Nat.{ℕ, zero, suc, _+_, _-_, _*_, _/_, _%_, _^_, _≤_, _<_, min}
 use native.Mathlib.Nat.{mul-assoc, mul-right-comm, mul-comm, mul-le-mul, le-div-iff-mul-le, div-eq-of-lt, div-lt-iff-lt-mul, lt-of-lt-of-le, lt-of-le-of-lt}
-use native.Mathlib.Decide.{ℕ-discrete}
 use native.Mathlib.Omega.{arith}
 use lib.Dec.{T, leb, eqb}
 use lib.Pow.{pow-add, pow-pos, pow-mono, shl-lt}

@@ -1,8 +1,10 @@
 -- Worked examples that hold the definitions to IEEE 754: antt computes each.
 use mathlib.Core.Path.{_≡_, refl}
+use mathlib.Core.Bool.{true, false}
 use mathlib.Core.List.{[], _∷_, map}
-use lib.Ieee.{nan, inf, fin, toBits, size}
-use Rattle.half.specs.Half.{half, value}
+use lib.IntN.{pos, negsuc}
+use lib.Ieee.{nan, inf, fin, toBits}
+use Rattle.half.specs.Half.{value}
 use Rattle.channels.specs.Channels.{finite, floatBits, byteOf}
 
 -- +0, -0, 1, -2, 1 / 3 rounded, the largest 65504, the least normal 2 ^ -14, the least 2 ^ -24, the largest subnormal, the infinities, and NaNs of both signs
@@ -15,3 +17,13 @@ float-bits = refl
 -- the largest finite half stays, and what is above it becomes it
 finites : map finite (0 ∷ 0x3c00 ∷ 0x7bff ∷ 0x7c00 ∷ 0x7fff ∷ []) ≡ 0 ∷ 0x3c00 ∷ 0x7bff ∷ 0x7bff ∷ 0x7bff ∷ []
 finites = refl
+
+-- a NaN, the infinities, 1 / 2, 1, 16, the float below 1, -1 and -0, by `f32_to_u8`, and a NaN by the rule of HDR channels
+float-bytes : map (byteOf 0) (nan ∷ inf false ∷ inf true ∷ fin false 1 (negsuc 0) ∷ fin false 1 (pos 0) ∷ fin false 1 (pos 4) ∷ fin false 16777215 (negsuc 23) ∷ fin true 1 (pos 0) ∷ fin true 0 (pos 0) ∷ [])
+    ≡ 0 ∷ 255 ∷ 255 ∷ 127 ∷ 255 ∷ 255 ∷ 254 ∷ 0 ∷ 0 ∷ []
+unfolding byteOf
+float-bytes = refl
+
+hdr-nan : byteOf 255 nan ≡ 255
+unfolding byteOf
+hdr-nan = refl

@@ -7,7 +7,7 @@ use mathlib.Core.Logic.{_⊎_, inl, inr}
 use mathlib.Core.Bool.{Bool, true, false, not, cond}
 use lib.Dec.{T, leb, eqb, leb→le, le→leb, eqb→eq, not-T, lit<, lit≤}
 use lib.IntN.{pos, negsuc}
-use lib.Pow.{pow-add, pow-pos, pow-mono, shl-lt}
+use lib.Pow.{pow-add, pow-pos}
 use lib.Ieee.{Float, nan, inf, fin, binary32, unlike, odd, round, mul, neg, fits, div, isNan, inFloat, nanBits, ofFields, ofBits, ofInt}
 use lib.Ieee.Fits.{eq→eqb, odd-fits, mul-fits, inf-fits, nan-fits, cond-fits}
 use lib.Ieee.Bits.{is-true, is-false, cond-no, nanBits-is, ofBits-fits}

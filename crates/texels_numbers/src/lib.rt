@@ -1,7 +1,7 @@
 // The channels of texels as C reads them: four numbers a texel, and a byte that says which of them are floats.
 ghost use mathlib.Core.Path.{_≡_};
 ghost use Prim.Native.Nat.{ℕ, _+_, _*_, _≤_, _<_};
-ghost use lib.ListN.{getD, length};
+ghost use lib.ListN.{length};
 ghost use Rattle.laws.specs.Lists.{put};
 ghost use Rattle.footprint.specs.Footprints.{mostTexels};
 ghost use Rattle.channels.specs.Channels.{finite as finiteOf, floatBits, numberOf, markOf, marksOf};

@@ -4,7 +4,6 @@ ghost use Prim.Native.Nat.{ℕ, _≤_, _<_};
 ghost use lib.ListN.{getD};
 ghost use Rattle.laws.specs.Lists.{putAt};
 ghost use Rattle.footprint.specs.Footprints.{mostTexels};
-ghost use Rattle.endpoints_colours.specs.Colours.{nothing};
 ghost use Rattle.lanes.specs.Lanes.{eights};
 ghost use Rattle.texels.specs.Samples.{texelLane, samplesIn};
 ghost use Rattle.texels.specs.Given.{Given};

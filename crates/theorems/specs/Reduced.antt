@@ -4,7 +4,7 @@
 use mathlib.Core.Path.{_≡_, refl, sym, ap, _∙_}
 use mathlib.Core.Bool.{Bool, true, false, cond}
 use mathlib.Core.List.{List}
-use Prim.Native.Nat.{ℕ, zero, suc, _+_, _*_, _^_, _≤_, _<_}
+use Prim.Native.Nat.{ℕ, _+_, _*_, _≤_, _<_}
 use native.Mathlib.Omega.{arith}
 use native.Mathlib.Decide.{ℕ-discrete}
 use lib.Dec.{eqb}
@@ -40,9 +40,8 @@ use Rattle.params.specs.Laws.{answer-is}
 use Rattle.params.specs.declared.Params.{Params}
 use Rattle.texels.specs.Texels.{blendBy, blendedAt, crateReduction, sampleOf, weightAt, texelWord, texelSample}
 use Rattle.texels_samples.specs.PlaneLaws.{ends-lt}
-use Rattle.texels_numbers.specs.Numbers.{channelAt}
 use Rattle.block_void.specs.Void.{voidWord, voidSample, voidSamples}
-use Rattle.block_ordinary.specs.Ordinary.{endsOf, weightsIn, partitionsIn, ordinaryWord, ordinarySample}
+use Rattle.block_ordinary.specs.Ordinary.{ordinaryWord, ordinarySample}
 use Rattle.block_ordinary.specs.Facts.{Facts, ready}
 use Rattle.block_ordinary.specs.Parts.{ends-within, weights-light}
 use Rattle.block.specs.Block.{magenta, colourOf, wordOfParams, blockWord, wordAt}

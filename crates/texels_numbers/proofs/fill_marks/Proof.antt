@@ -1,7 +1,7 @@
 -- `texels_numbers::fill_marks` meets its contract by its loop: before turn i the first i places have the mark. Assumes nothing.
 use lib.ListN.{length}
 use Rattle.laws.specs.Lists.{put, put-none, put-turn, put-end, length-put}
-use Prim.Native.Nat.{ℕ, _*_, _-_, _≤_, zero-le}
+use Prim.Native.Nat.{ℕ, _-_, _≤_, zero-le}
 use mathlib.Core.Path.{_≡_, refl, ap, _∙_}
 use native.Mathlib.Omega.{arith}
 use Rattle.texels_numbers.proofs.fill_marks.Statement.{statement}

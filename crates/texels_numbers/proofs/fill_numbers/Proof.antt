@@ -3,8 +3,8 @@ use borrow.Author.Needs.{needs}
 use Rattle.texels_numbers.specs.Numbers.{fours}
 use Rattle.texels_numbers.specs.NumberLaws.{allOf, four-stores, filled-is}
 use lib.ListN.{length}
-use Rattle.laws.specs.Lists.{put, put-none, put-turn, put-end, length-put}
-use Prim.Native.Nat.{ℕ, _*_, _-_, _≤_, zero-le}
+use Rattle.laws.specs.Lists.{put, put-none, put-end, length-put}
+use Prim.Native.Nat.{_*_, _-_, _≤_, zero-le}
 use mathlib.Core.Path.{_≡_, refl, ap, _∙_}
 use native.Mathlib.Omega.{arith}
 use Rattle.texels_numbers.proofs.fill_numbers.Statement.{statement}

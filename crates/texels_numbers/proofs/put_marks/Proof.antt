@@ -4,8 +4,8 @@ use Rattle.channels.specs.Channels.{marksOf}
 use Rattle.texels_numbers.specs.Numbers.{marksFrom}
 use lib.ListN.{length}
 use Rattle.laws.specs.Lists.{put, put-none, put-turn, put-end, length-put}
-use Prim.Native.Nat.{ℕ, _*_, _-_, _≤_, zero-le}
-use mathlib.Core.Path.{_≡_, refl, ap, _∙_}
+use Prim.Native.Nat.{_-_, _≤_, zero-le}
+use mathlib.Core.Path.{_≡_, ap, _∙_}
 use native.Mathlib.Omega.{arith}
 use Rattle.texels_numbers.proofs.put_marks.Statement.{statement}
 use Rattle.texels_numbers.proofs.put_marks.Tie as tie

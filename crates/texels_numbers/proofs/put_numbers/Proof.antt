@@ -3,9 +3,9 @@ use borrow.Author.Needs.{needs}
 use Rattle.texels_numbers.specs.Numbers.{numbersFrom}
 use Rattle.texels_numbers.specs.NumberLaws.{four-stores}
 use lib.ListN.{length}
-use Rattle.laws.specs.Lists.{put, put-none, put-turn, put-end, length-put}
-use Prim.Native.Nat.{ℕ, _*_, _-_, _≤_, zero-le}
-use mathlib.Core.Path.{_≡_, refl, ap, _∙_}
+use Rattle.laws.specs.Lists.{put, put-none, put-end, length-put}
+use Prim.Native.Nat.{_*_, _-_, _≤_, zero-le}
+use mathlib.Core.Path.{_≡_, ap, _∙_}
 use native.Mathlib.Omega.{arith}
 use Rattle.texels_numbers.proofs.put_numbers.Statement.{statement}
 use Rattle.texels_numbers.proofs.put_numbers.Tie as tie

@@ -1,6 +1,6 @@
 -- `texels_samples::put_any`: the lanes before i have the samples of the texels before i. Assumes nothing.
 use mathlib.Core.Path.{_≡_}
-use Prim.Native.Nat.{ℕ, _+_, _-_, _≤_, _<_, zero-le}
+use Prim.Native.Nat.{_+_, _-_, _≤_, _<_, zero-le}
 use lib.ListN.{getD}
 use Rattle.laws.specs.Lists.{putAt, putAt-none, putAt-turn, putAt-end}
 use Rattle.footprint.specs.Footprints.{mostTexels}

@@ -1,7 +1,6 @@
 -- `texels_samples::put_one`: the lanes before i have the samples of the texels before i. Assumes nothing.
 use mathlib.Core.Path.{_≡_}
-use Prim.Native.Nat.{ℕ, _+_, _-_, _≤_, zero-le}
-use lib.ListN.{getD}
+use Prim.Native.Nat.{_+_, _-_, _≤_, zero-le}
 use Rattle.laws.specs.Lists.{putAt, putAt-none, putAt-turn, putAt-end}
 use Rattle.lanes.specs.Lanes.{eights}
 use Rattle.texels_samples.specs.Planes.{oneAt}
