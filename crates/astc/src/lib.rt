@@ -49,8 +49,9 @@ pub extern "C" fn astc_block_channels(
 ) -> u32
     ensures { λ a. ⌜ (a ≡ channelsAnswer options (now (block .entry)) (footprint bw bh) (length (now (channels .entry))) (length (now (floats .entry)))) × (now (channels .exit) ≡ channelsIn options (now (block .entry)) (footprint bw bh) (length (now (floats .entry))) (now (channels .entry))) × (now (floats .exit) ≡ floatsIn options (now (block .entry)) (footprint bw bh) (length (now (channels .entry))) (now (floats .entry))) ⌝ }
 {
-    if options != 0 {
-        return answers::OPTIONS as u32;
+    let refused = astc_checks::options_refusal(options);
+    if refused != 0 {
+        return refused as u32;
     }
     let f = Footprint {
         width: bw,
@@ -109,12 +110,9 @@ pub extern "C" fn astc_image_step(
         height,
         footprint,
     };
-    if moved.len() < 3 {
-        let a = image_shape::refusal(shape, data.len(), out.len());
-        if a == 0 {
-            return answers::OUTPUT_TOO_SHORT as u32;
-        }
-        return a as u32;
+    let refused = astc_checks::places_refusal(shape, data.len(), out.len(), moved.len());
+    if refused != 0 {
+        return refused as u32;
     }
     let c = Cursor { shape, next };
     let s = c.step(data, blocks, out);

@@ -10,14 +10,12 @@ use Rattle.bits.specs.Bits.{bytes}
 use Rattle.answers.specs.Answers.{legal, voidExtent, blockLength}
 use Rattle.footprint.specs.Footprints.{texelsOf}
 use Rattle.footprint.specs.declared.Footprint.{Footprint}
-use Rattle.params_rules.specs.Fields.{fieldsOf, answer}
 use Rattle.params.specs.Params.{paramsOf}
 use Rattle.params.specs.declared.Params.{Params}
 use Rattle.blend.specs.Blend.{wordOf}
 use Rattle.block_void.specs.Void.{voidWord}
 use Rattle.block_ordinary.specs.Ordinary.{ordinaryWord}
 use Rattle.block_map.specs.Answer.{answerOf}
-use Rattle.block.specs.declared.Outcome.{Outcome}
 
 -- the 128 bits of the block of sixteen bytes, as one number
 abbrev pub blockBits : List ℕ → ℕ
@@ -46,7 +44,3 @@ wordAt s foot t = blockWord (blockBits s) foot t
 -- ---- the entry point: what the output holds after it was `out`
 unfoldable pub paintedOf : List ℕ → Footprint → List ℕ → List ℕ
 paintedOf s foot out = cond (ltb (answerOf s foot (length out)) blockLength) (put (wordAt s foot) 0 (texelsOf foot) out) out
-
--- ---- the code's step: what the block v at a listed footprint comes to, its answer, and its one word where it is not legal
-unfoldable pub outcomeOf : ℕ → Footprint → Outcome
-outcomeOf v foot = let a = answer (fieldsOf v) foot in record { answer = a; word = cond (eqb a legal) 0 (colourOf a v) }

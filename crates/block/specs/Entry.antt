@@ -1,76 +1,64 @@
 -- The entry point's ways out, and the words that it paints.
 -- Assumes nothing.
 use mathlib.Core.Path.{_≡_, refl, sym, ap, _∙_}
-use mathlib.Core.Bool.{Bool, true, false, cond, not}
+use mathlib.Core.Bool.{Bool, true, false, cond}
 use mathlib.Core.List.{List}
 use Prim.Native.Nat.{ℕ, _+_, _≤_, _<_}
 use native.Mathlib.Nat.{zero-add}
-use lib.Dec.{eqb, ltb}
+use lib.Dec.{ltb}
 use lib.ListN.{length, replicate, length-replicate}
-use borrow.Author.Tests.{eq-eqb, ne-eqb, lt-ltb, le-ltb}
+use borrow.Author.Tests.{lt-ltb, le-ltb}
 use Rattle.laws.specs.Lists.{put, putAt, length-put, put-same, putAt-first}
 use Rattle.footprint.specs.Footprints.{texelsOf, listed}
 use Rattle.footprint.specs.declared.Footprint.{Footprint}
 use Rattle.lanes.specs.Lanes.{mostLanes, joinedAt}
-use Rattle.params_rules.specs.Fields.{fieldsOf, answer}
+use Rattle.params_rules.specs.Fields.{fieldsOf}
 use Rattle.params_rules.specs.FieldLaws.{answer-lt}
+use Rattle.block_refusal.specs.Refusal.{blockRefusal}
+use Rattle.block_refusal.specs.RefusalLaws.{refusal-large}
 use Rattle.block_map.specs.Answer.{answerOf}
-use Rattle.block_ordinary.specs.Ordinary.{lanesOf}
-use Rattle.block.specs.Block.{blockBits, wordAt, paintedOf, outcomeOf}
-use Rattle.block.specs.OutcomeLaws.{word-one, word-legal}
-use Rattle.block.specs.declared.Outcome.{Outcome}
+use Rattle.block_map.specs.AnswerLaws.{answer-refused, answer-accepted}
+use Rattle.block_void.specs.Void.{voidAnswer, voidWord}
+use Rattle.block_ordinary.specs.Ordinary.{blockAnswer, lanesOf}
+use Rattle.block.specs.Block.{blockBits, magenta, wordAt, paintedOf}
+use Rattle.block.specs.WordLaws.{answer-at, word-void, word-bad, word-legal}
 
--- ---- the words that a block's decoding leaves, v being the number of its bytes s
-module _ (s : List ℕ) (foot : Footprint) (v : ℕ) (ev : v ≡ blockBits s) (r : Outcome) (er : r ≡ outcomeOf v foot) (out now : List ℕ) where
-  outcome-is : r ≡ outcomeOf (blockBits s) foot
-  outcome-is = er ∙ ap (λ (x : ℕ). outcomeOf x foot) ev
-
-  answer-is : r .answer ≡ outcomeOf (blockBits s) foot .answer
-  answer-is = ap (λ (q : Outcome). q .answer) outcome-is
-
+-- ---- the words that are painted, v being the number of the block's bytes s
+module _ (s : List ℕ) (foot : Footprint) (v : ℕ) (ev : v ≡ blockBits s) (out now : List ℕ) where
   abbrev Painted : ℕ → Type 0
-  Painted a = (a ≡ outcomeOf (blockBits s) foot .answer) × (now ≡ put (wordAt s foot) 0 (texelsOf foot) out)
+  Painted a = (a ≡ blockAnswer (blockBits s) foot) × (now ≡ put (wordAt s foot) 0 (texelsOf foot) out)
 
-  pub words-legal : (lanes : List ℕ) → listed foot ≡ true → r .answer ≡ 0 → lanes ≡ lanesOf v foot (replicate mostLanes 0)
+  -- by g, which has the block's words
+  painted-by : (g : ℕ → ℕ) (a : ℕ) → a ≡ blockAnswer v foot → ((t : ℕ) → t < texelsOf foot → g t ≡ wordAt s foot t) → now ≡ putAt g 0 (texelsOf foot) out → Painted a
+  painted-by g a e same p = (answer-at s foot v ev a e, p ∙ putAt-first _ (texelsOf foot) out ∙ put-same _ _ 0 (texelsOf foot) out (λ k x y. same k y))
+
+  pub words-void : (a w : ℕ) → a ≡ voidAnswer v → w ≡ voidWord v → a ≡ 1 → now ≡ putAt (λ (i : ℕ). w) 0 (texelsOf foot) out → Painted a
+  words-void a w e f z p = let d = word-void s foot v ev a w e f z in painted-by (λ (i : ℕ). w) a (d .0) (λ t h. d .1 t) p
+
+  pub words-bad : (b a : ℕ) → b ≡ voidAnswer v → (b ≡ 1 → ⊥) → a ≡ blockAnswer v foot → (a ≡ 0 → ⊥) → now ≡ putAt (λ (i : ℕ). magenta) 0 (texelsOf foot) out → Painted a
+  words-bad b a d h e n p = painted-by (λ (i : ℕ). magenta) a e (λ t l. word-bad s foot v ev b a d h e n t) p
+
+  pub words-legal : (a : ℕ) (lanes : List ℕ) → listed foot ≡ true → a ≡ blockAnswer v foot → a ≡ 0 → lanes ≡ lanesOf v foot (replicate mostLanes 0)
       → now ≡ putAt (λ (i : ℕ). joinedAt lanes (0 + i)) 0 (texelsOf foot) out → Painted 0
-  words-legal lanes l z d p =
-      let a : outcomeOf (blockBits s) foot .answer ≡ 0 = sym answer-is ∙ z in
-      let h : lanes ≡ lanesOf (blockBits s) foot (replicate mostLanes 0) = d ∙ ap (λ (x : ℕ). lanesOf x foot (replicate mostLanes 0)) ev in (
-        sym a,
-        p ∙ putAt-first _ (texelsOf foot) out
-            ∙ put-same _ _ 0 (texelsOf foot) out
-            (λ k x y. ap (joinedAt lanes) (zero-add k) ∙ word-legal s foot l (replicate mostLanes 0) lanes k (length-replicate {A = ℕ} mostLanes 0) h a y),
-      )
-
-  pub words-one : (r .answer ≡ 0 → ⊥) → now ≡ putAt (λ (i : ℕ). r .word) 0 (texelsOf foot) out → Painted (r .answer)
-  words-one n p = (
-    answer-is,
-    p ∙ putAt-first _ (texelsOf foot) out
-        ∙ put-same _ _ 0 (texelsOf foot) out (λ k x y. ap (λ (q : Outcome). q .word) outcome-is ∙ word-one s foot k (λ z. n (answer-is ∙ z))),
-  )
+  words-legal a lanes l e z d p =
+      painted-by (λ (i : ℕ). joinedAt lanes (0 + i)) 0 (sym z ∙ e)
+      (λ k h. ap (joinedAt lanes) (zero-add k) ∙ word-legal s foot v ev l (replicate mostLanes 0) lanes (length-replicate {A = ℕ} mostLanes 0) d (sym e ∙ z) k h) p
 
 -- ---- the ways out
 module _ (s : List ℕ) (foot : Footprint) (out : List ℕ) where
   abbrev Answered : ℕ → List ℕ → Type 0
   Answered a now = (a ≡ answerOf s foot (length out)) × (now ≡ paintedOf s foot out)
 
-  pub not-sixteen : (length s ≡ 16 → ⊥) → Answered 20 out
-  unfolding answerOf paintedOf
-  not-sixteen h = rw (ne-eqb (length s) 16 h) (refl, refl)
+  pub call-refused : (a : ℕ) → a ≡ blockRefusal (length s) foot (length out) → (a ≡ 0 → ⊥) → Answered a out
+  unfolding paintedOf
+  call-refused a e n =
+      let r = answer-refused s foot (length out) a e n in
+      let l : 20 ≤ a = rw (← e) at (refusal-large (length s) foot (length out) (λ z. n (e ∙ z))) in
+      rw (r, le-ltb a 20 l) (refl, refl)
 
-  pub not-listed : length s ≡ 16 → listed foot ≡ false → Answered 21 out
-  unfolding answerOf paintedOf
-  not-listed h l = rw (eq-eqb (length s) 16 h, l) (refl, refl)
-
-  pub no-room : length s ≡ 16 → listed foot ≡ true → length out < texelsOf foot → Answered 22 out
-  unfolding answerOf paintedOf
-  no-room h l r = rw (eq-eqb (length s) 16 h, l, lt-ltb (length out) (texelsOf foot) r) (refl, refl)
-
-  pub painted : (a : ℕ) (now : List ℕ) → length s ≡ 16 → listed foot ≡ true → texelsOf foot ≤ length out
-      → (a ≡ outcomeOf (blockBits s) foot .answer) × (now ≡ put (wordAt s foot) 0 (texelsOf foot) out) → Answered a now
-  unfolding answerOf paintedOf outcomeOf
-  painted a now l f r d =
-      rw (eq-eqb (length s) 16 l, f, le-ltb (length out) (texelsOf foot) r, lt-ltb (answer (fieldsOf (blockBits s)) foot) 20 (answer-lt (fieldsOf (blockBits s)) foot)) d
+  pub painted : (a : ℕ) (now : List ℕ) → blockRefusal (length s) foot (length out) ≡ 0 → Painted s foot (blockBits s) refl out now a → Answered a now
+  unfolding paintedOf
+  painted a now z d = rw (answer-accepted s foot (length out) z, lt-ltb (blockAnswer (blockBits s) foot) 20 (answer-lt (fieldsOf (blockBits s)) foot)) d
 
 -- what is painted has the length of what was there
 pub length-painted : (s : List ℕ) (foot : Footprint) (out : List ℕ) → length (paintedOf s foot out) ≡ length out

@@ -1,3 +1,3 @@
 pub mod Block
-pub mod OutcomeLaws
+pub mod WordLaws
 pub mod Entry

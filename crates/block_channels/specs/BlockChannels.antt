@@ -1,13 +1,13 @@
 -- The channels of a block's texels. v is the block's number of 128 bits, s its sixteen bytes.
 -- Assumes nothing.
-use mathlib.Core.Bool.{cond, not}
+use mathlib.Core.Bool.{cond}
 use mathlib.Core.List.{List}
 use Prim.Native.Nat.{ℕ, _*_, _/_, min}
 use lib.Dec.{eqb, ltb}
 use lib.ListN.{length}
 use Rattle.laws.specs.Lists.{put}
-use Rattle.answers.specs.Answers.{legal, voidExtent, blockLength, notListed, noPosition}
-use Rattle.footprint.specs.Footprints.{texelsOf, listed}
+use Rattle.answers.specs.Answers.{legal, voidExtent, blockLength}
+use Rattle.footprint.specs.Footprints.{texelsOf}
 use Rattle.footprint.specs.declared.Footprint.{Footprint}
 use Rattle.channels.specs.Channels.{texelOf, marksOf}
 use Rattle.channels.specs.declared.Sample.the-variants.{Byte}
@@ -17,6 +17,7 @@ use Rattle.params.specs.Params.{paramsOf}
 use Rattle.params.specs.declared.Params.{Params}
 use Rattle.texels_numbers.specs.Numbers.{numbersBy}
 use Rattle.block_void.specs.Void.{voidSamples}
+use Rattle.block_refusal.specs.Refusal.{texelRefusal}
 use Rattle.block_map.specs.Answer.{answerOf}
 use Rattle.block_ordinary.specs.Ordinary.{ordinarySample}
 use Rattle.block.specs.Block.{blockBits}
@@ -69,7 +70,4 @@ abbrev pub refusedBy : ℕ → Answered
 refusedBy a = record { answer = a; texel = texelOf (bytesOf 0 0 0 0) }
 
 unfoldable pub texelAnswered : List ℕ → Footprint → ℕ → Answered
-texelAnswered s foot t =
-    cond (not (eqb (length s) 16)) (refusedBy blockLength)
-    (cond (not (listed foot)) (refusedBy notListed)
-    (cond (ltb t (texelsOf foot)) (answeredAt s foot t) (refusedBy noPosition)))
+texelAnswered s foot t = let a = texelRefusal (length s) foot t in cond (eqb a 0) (answeredAt s foot t) (refusedBy a)

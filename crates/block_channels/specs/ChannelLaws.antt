@@ -32,10 +32,12 @@ use Rattle.texels_numbers.specs.Numbers.{sampleIn, texelIn, channelAt, numbersB
 use Rattle.texels_numbers.specs.NumberLaws.{read-byte, read-half, fours-same}
 use Rattle.block_void.specs.Void.{voidAnswer, voidSamples}
 use Rattle.block_void.specs.VoidLaws.{void-true}
+use Rattle.block_refusal.specs.Refusal.{blockRefusal, texelRefusal}
+use Rattle.block_refusal.specs.RefusalLaws.{accepted, refusal-large}
 use Rattle.block_map.specs.Answer.{answerOf}
+use Rattle.block_map.specs.AnswerLaws.{answer-refused, answer-accepted}
 use Rattle.block_ordinary.specs.Ordinary.{ordinarySample, ordinaryLane, lanesIn}
-use Rattle.block.specs.Block.{blockBits, outcomeOf}
-use Rattle.block.specs.declared.Outcome.{Outcome}
+use Rattle.block.specs.Block.{blockBits}
 use Rattle.block_channels.specs.BlockChannels.{magentaSamples, samplesBy, blockSamples, numberAt, marksAt, roomOf, numbersOf, marksIn, answeredAt, refusedBy, texelAnswered}
 use Rattle.block_channels.specs.declared.Answered.{Answered}
 
@@ -84,11 +86,6 @@ module _ (v : ℕ) (foot : Footprint) where
     unfolding blockSamples
     samples-legal t h =
         rw (eq-eqb (paramsOf v foot .answer) 0 told, lane-is t 0 h (omega arith), lane-is t 1 h (omega arith), lane-is t 2 h (omega arith), lane-is t 3 h (omega arith))
-
--- what a decoder's outcome tells
-pub outcome-told : (v : ℕ) (foot : Footprint) (r : Outcome) → r ≡ outcomeOf v foot → r .answer ≡ answer (fieldsOf v) foot
-unfolding outcomeOf
-outcome-told v foot r e = ap (λ (x : Outcome). x .answer) e
 
 -- ---- what is put, v being the number of the bytes s
 module _ (s : List ℕ) (foot : Footprint) (v : ℕ) (ev : v ≡ blockBits s) where
@@ -150,51 +147,37 @@ module _ (s : List ℕ) (foot : Footprint) (v : ℕ) (ev : v ≡ blockBits s) wh
         let k : 0 ≡ answer (fieldsOf v) foot = sym z ∙ e in
         rw z at (texel-by e (q ∙ samples-legal v foot l lanes d k t h))
 
--- ---- the ways out of the call for all texels
+-- ---- the call for all texels
+-- one that is not refused has room in both outputs
+pub passed : (len : ℕ) (foot : Footprint) (places marks : ℕ) → blockRefusal len foot (roomOf places marks) ≡ 0
+    → (len ≡ 16) × (listed foot ≡ true) × (4 * texelsOf foot ≤ places) × (texelsOf foot ≤ marks)
+passed len foot places marks z =
+    let c = accepted len foot (roomOf places marks) z in
+    (c .sixteen, c .listed, omega (arith, c .room), omega (arith, c .room))
+
+-- its ways out
 module _ (s : List ℕ) (foot : Footprint) (out floats : List ℕ) where
   abbrev Ends : ℕ → List ℕ → List ℕ → Type 0
   Ends a now marks = (a ≡ answerOf s foot (roomOf (length out) (length floats))) × (now ≡ numbersOf s foot (length floats) out) × (marks ≡ marksIn s foot (length out) floats)
 
-  pub not-sixteen : (length s ≡ 16 → ⊥) → Ends 20 out floats
-  unfolding answerOf numbersOf marksIn
-  not-sixteen h = rw (ne-eqb (length s) 16 h) (refl, refl, refl)
+  pub call-refused : (a : ℕ) → a ≡ blockRefusal (length s) foot (roomOf (length out) (length floats)) → (a ≡ 0 → ⊥) → Ends a out floats
+  unfolding numbersOf marksIn
+  call-refused a e n =
+      let room = roomOf (length out) (length floats) in
+      let l : 20 ≤ a = rw (← e) at (refusal-large (length s) foot room (λ z. n (e ∙ z))) in
+      rw (answer-refused s foot room a e n, le-ltb a 20 l) (refl, refl, refl)
 
-  module _ (h : length s ≡ 16) where
-    pub not-listed : listed foot ≡ false → Ends 21 out floats
-    unfolding answerOf numbersOf marksIn
-    not-listed l = rw (eq-eqb (length s) 16 h, l) (refl, refl, refl)
-
-    module _ (l : listed foot ≡ true) where
-      no-room : roomOf (length out) (length floats) < texelsOf foot → Ends 22 out floats
-      unfolding answerOf numbersOf marksIn
-      no-room r = rw (eq-eqb (length s) 16 h, l, lt-ltb (roomOf (length out) (length floats)) (texelsOf foot) r) (refl, refl, refl)
-
-      pub few-numbers : length out < 4 * texelsOf foot → Ends 22 out floats
-      few-numbers r = no-room (omega arith)
-
-      pub few-marks : length floats < texelsOf foot → Ends 22 out floats
-      few-marks r = no-room (omega arith)
-
-      pub all-put : (a : ℕ) (now marks : List ℕ) → 4 * texelsOf foot ≤ length out → texelsOf foot ≤ length floats → Put s foot (blockBits s) refl out floats now marks a → Ends a now marks
-      unfolding answerOf numbersOf marksIn
-      all-put a now marks m k d =
-          let r : texelsOf foot ≤ roomOf (length out) (length floats) = omega arith in
-          rw (eq-eqb (length s) 16 h, l, le-ltb (roomOf (length out) (length floats)) (texelsOf foot) r, lt-ltb (answer (fieldsOf (blockBits s)) foot) 20 (answer-lt (fieldsOf (blockBits s)) foot)) d
+  pub all-put : (a : ℕ) (now marks : List ℕ) → blockRefusal (length s) foot (roomOf (length out) (length floats)) ≡ 0 → Put s foot (blockBits s) refl out floats now marks a → Ends a now marks
+  unfolding numbersOf marksIn
+  all-put a now marks z d =
+      rw (answer-accepted s foot (roomOf (length out) (length floats)) z, lt-ltb (answer (fieldsOf (blockBits s)) foot) 20 (answer-lt (fieldsOf (blockBits s)) foot)) d
 
 -- ---- and for one
 module _ (s : List ℕ) (foot : Footprint) (t : ℕ) where
-  pub texel-not-sixteen : (length s ≡ 16 → ⊥) → refusedBy 20 ≡ texelAnswered s foot t
+  pub texel-refused : (a : ℕ) → a ≡ texelRefusal (length s) foot t → (a ≡ 0 → ⊥) → refusedBy a ≡ texelAnswered s foot t
   unfolding texelAnswered
-  texel-not-sixteen h = rw (ne-eqb (length s) 16 h)
+  texel-refused a e n = rw (sym e, ne-eqb a 0 n)
 
-  pub texel-not-listed : length s ≡ 16 → listed foot ≡ false → refusedBy 21 ≡ texelAnswered s foot t
+  pub texel-told : (r : Answered) → texelRefusal (length s) foot t ≡ 0 → r ≡ answeredAt s foot t → r ≡ texelAnswered s foot t
   unfolding texelAnswered
-  texel-not-listed h l = rw (eq-eqb (length s) 16 h, l)
-
-  pub texel-outside : length s ≡ 16 → listed foot ≡ true → texelsOf foot ≤ t → refusedBy 32 ≡ texelAnswered s foot t
-  unfolding texelAnswered
-  texel-outside h l k = rw (eq-eqb (length s) 16 h, l, le-ltb t (texelsOf foot) k)
-
-  pub texel-told : (r : Answered) → length s ≡ 16 → listed foot ≡ true → t < texelsOf foot → r ≡ answeredAt s foot t → r ≡ texelAnswered s foot t
-  unfolding texelAnswered
-  texel-told r h l k e = e ∙ rw (eq-eqb (length s) 16 h, l, lt-ltb t (texelsOf foot) k)
+  texel-told r z e = e ∙ rw z

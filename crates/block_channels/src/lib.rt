@@ -7,8 +7,7 @@ ghost use Rattle.laws.specs.Lists.{put};
 ghost use Rattle.footprint.specs.Footprints.{texelsOf, listed};
 ghost use Rattle.bits.specs.Blocks.{valueOf};
 ghost use Rattle.params_low.specs.Low.{isVoid};
-ghost use Rattle.params_rules.specs.Fields.{fieldsOf, answer as answerIn};
-ghost use Rattle.block_ordinary.specs.Ordinary.{lanesIn};
+ghost use Rattle.block_ordinary.specs.Ordinary.{blockAnswer, lanesIn};
 ghost use Rattle.block_map.specs.Answer.{answerOf};
 ghost use Rattle.block.specs.Block.{blockBits};
 ghost use Rattle.block_channels.specs.BlockChannels.{magentaSamples, numberAt, marksAt, answeredAt, roomOf, numbersOf, marksIn, refusedBy, texelAnswered};
@@ -42,10 +41,10 @@ fn magenta() -> Samples
 // Puts the samples of a legal block that is not void, at a listed footprint, into lanes, and gives the block's answer.
 fn decode_samples(b: Block, f: Footprint, lanes: &mut [u16; LANES]) -> usize
     requires { ⌜ (isVoid (valueOf b) ≡ false) × (listed f ≡ true) ⌝ }
-    ensures { λ a. ⌜ (a ≡ answerIn (fieldsOf (valueOf b)) f) × (now (lanes .exit) ≡ lanesIn Form.Samples (valueOf b) f (now (lanes .entry))) ⌝ }
+    ensures { λ a. ⌜ (a ≡ blockAnswer (valueOf b) f) × (now (lanes .exit) ≡ lanesIn Form.Samples (valueOf b) f (now (lanes .entry))) ⌝ }
 {
     let tables = block_tables::make_tables();
-    let r = block::decode_lanes(
+    block_ordinary::decode_ordinary(
         &tables.reversal,
         &tables.trits,
         &tables.quints,
@@ -53,14 +52,13 @@ fn decode_samples(b: Block, f: Footprint, lanes: &mut [u16; LANES]) -> usize
         f,
         lanes,
         Form::Samples,
-    );
-    r.answer
+    )
 }
 
 // Puts the numbers and the marks of a block at a listed footprint, and gives the answer.
 fn put_block(s: &[u8], f: Footprint, out: &mut [u32], floats: &mut [u8]) -> usize
     requires { ⌜ (length (now s) ≡ 16) × (listed f ≡ true) × (4 * texelsOf f ≤ length (now out)) × (texelsOf f ≤ length (now floats)) ⌝ }
-    ensures { λ a. ⌜ (a ≡ answerIn (fieldsOf (blockBits (now (s .entry)))) f) × (now (out .exit) ≡ put (numberAt (now (s .entry)) f) 0 (4 * texelsOf f) (now (out .entry))) × (now (floats .exit) ≡ put (marksAt (now (s .entry)) f) 0 (texelsOf f) (now (floats .entry))) ⌝ }
+    ensures { λ a. ⌜ (a ≡ blockAnswer (blockBits (now (s .entry))) f) × (now (out .exit) ≡ put (numberAt (now (s .entry)) f) 0 (4 * texelsOf f) (now (out .entry))) × (now (floats .exit) ≡ put (marksAt (now (s .entry)) f) 0 (texelsOf f) (now (floats .entry))) ⌝ }
 {
     let n = f.width * f.height;
     let b = block_load::load(s);
@@ -106,25 +104,26 @@ fn texel_at(s: &[u8], f: Footprint, t: usize) -> Answered
     }
 }
 
+// The texels for which two outputs of so many places have room.
+fn room_of(places: usize, marks: usize) -> usize
+    ensures { λ r. ⌜ r ≡ roomOf places marks ⌝ }
+{
+    if places / 4 < marks {
+        return places / 4;
+    }
+    marks
+}
+
 // Puts four numbers a texel into `out`, red, green, blue and alpha, bytes or the bits of floats, and into `floats` which of them are floats;
 // gives the answer. A refusal leaves both outputs as they were.
 pub fn decode_channels(s: &[u8], f: Footprint, out: &mut [u32], floats: &mut [u8]) -> usize
     ensures { λ a. ⌜ (a ≡ answerOf (now (s .entry)) f (roomOf (length (now (out .entry))) (length (now (floats .entry))))) × (now (out .exit) ≡ numbersOf (now (s .entry)) f (length (now (floats .entry))) (now (out .entry))) × (now (floats .exit) ≡ marksIn (now (s .entry)) f (length (now (out .entry))) (now (floats .entry))) ⌝ }
 {
-    if s.len() != 16 {
-        return answers::BLOCK_LENGTH;
+    let a = block_refusal::refusal(s.len(), f, room_of(out.len(), floats.len()));
+    if a != 0 {
+        return a;
     }
-    if footprint::is_listed(f) {
-        let n = f.width * f.height;
-        if out.len() < 4 * n {
-            return answers::OUTPUT_TOO_SHORT;
-        }
-        if floats.len() < n {
-            return answers::OUTPUT_TOO_SHORT;
-        }
-        return put_block(s, f, out, floats);
-    }
-    answers::FOOTPRINT
+    put_block(s, f, out, floats)
 }
 
 // A refusal by its number.
@@ -146,14 +145,9 @@ fn refused(answer: usize) -> Answered
 pub fn texel_channels(s: &[u8], f: Footprint, t: usize) -> Answered
     ensures { λ r. ⌜ r ≡ texelAnswered (now (s .entry)) f t ⌝ }
 {
-    if s.len() != 16 {
-        return refused(answers::BLOCK_LENGTH);
+    let a = block_refusal::texel_refusal(s.len(), f, t);
+    if a != 0 {
+        return refused(a);
     }
-    if footprint::is_listed(f) {
-        if t < f.width * f.height {
-            return texel_at(s, f, t);
-        }
-        return refused(answers::POSITION);
-    }
-    refused(answers::FOOTPRINT)
+    texel_at(s, f, t)
 }

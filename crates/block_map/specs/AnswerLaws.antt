@@ -22,15 +22,26 @@ use Rattle.params_room.specs.RoomLaws.{range-is}
 use Rattle.params_map.specs.Map.{legalMap, noMap, mapOf}
 use Rattle.params_map.specs.MapLaws.{InOrder, map-answer as answer-mapped, map-legal, map-none, in-order}
 use Rattle.params_map.specs.declared.BlockMap.{BlockMap}
+use Rattle.block_refusal.specs.Refusal.{firstRefusal, blockRefusal}
+use Rattle.block_refusal.specs.RefusalLaws.{out-first, accepted, passes, refusal-small}
 use Rattle.block_map.specs.Answer.{answerOf, mapAnswer, blockMap}
 
--- ---- no answer is above the refusals
-pub answer-small : (s : List ℕ) (foot : Footprint) (room : ℕ) → answerOf s foot room < 23
-unfolding answerOf
-answer-small s foot room =
-    let l = answer-lt (fieldsOf (bytes 16 s)) foot in
-    let m : answer (fieldsOf (bytes 16 s)) foot < 23 = omega arith in
-    choice (not (eqb (length s) 16)) 20 _ (omega arith) (choice (not (listed foot)) 21 _ (omega arith) (choice (ltb room (texelsOf foot)) 22 _ (omega arith) m))
+-- ---- the answer of a call that is refused, and of one that is not
+module _ (s : List ℕ) (foot : Footprint) (room : ℕ) where
+  pub answer-refused : (a : ℕ) → a ≡ blockRefusal (length s) foot room → (a ≡ 0 → ⊥) → answerOf s foot room ≡ a
+  unfolding answerOf
+  answer-refused a e n = rw (sym e, ne-eqb a 0 n)
+
+  pub answer-accepted : blockRefusal (length s) foot room ≡ 0 → answerOf s foot room ≡ answer (fieldsOf (bytes 16 s)) foot
+  unfolding answerOf
+  answer-accepted e = rw e
+
+  -- no answer is above the refusals
+  pub answer-small : answerOf s foot room < 23
+  unfolding answerOf
+  answer-small =
+      let l = answer-lt (fieldsOf (bytes 16 s)) foot in
+      choice (eqb (blockRefusal (length s) foot room) 0) (answer (fieldsOf (bytes 16 s)) foot) _ (omega arith) (refusal-small (length s) foot room)
 
 map-answer-lt : (s : List ℕ) (foot : Footprint) → mapAnswer s foot < 23
 unfolding mapAnswer
@@ -38,17 +49,13 @@ map-answer-lt s foot = answer-small s foot (texelsOf foot)
 
 -- ---- the ways out of the map
 module _ (s : List ℕ) (foot : Footprint) where
-  pub map-not-sixteen : (m : BlockMap) → (length s ≡ 16 → ⊥) → m ≡ noMap 20 → m ≡ blockMap s foot
-  unfolding answerOf mapAnswer blockMap
-  map-not-sixteen m h e = e ∙ rw (ne-eqb (length s) 16 h)
-
-  pub map-not-listed : (m : BlockMap) → length s ≡ 16 → listed foot ≡ false → m ≡ noMap 21 → m ≡ blockMap s foot
-  unfolding answerOf mapAnswer blockMap
-  map-not-listed m h l e = e ∙ rw (eq-eqb (length s) 16 h, l)
+  pub map-refused : (a : ℕ) (m : BlockMap) → a ≡ firstRefusal (length s) foot → (a ≡ 0 → ⊥) → m ≡ noMap a → m ≡ blockMap s foot
+  unfolding mapAnswer blockMap
+  map-refused a m e n q = q ∙ rw (answer-refused s foot (texelsOf foot) a (out-first (length s) foot (texelsOf foot) a e n) n, ne-eqb a 0 n)
 
   pub map-answer : length s ≡ 16 → listed foot ≡ true → mapAnswer s foot ≡ answer (fieldsOf (bytes 16 s)) foot
-  unfolding answerOf mapAnswer
-  map-answer h l = rw (eq-eqb (length s) 16 h, l, le-ltb (texelsOf foot) (texelsOf foot) (omega arith))
+  unfolding mapAnswer
+  map-answer h l = answer-accepted s foot (texelsOf foot) (passes (length s) foot (texelsOf foot) (record { sixteen = h; listed = l; room = omega arith }))
 
   pub map-block : (v : ℕ) (m : BlockMap) → length s ≡ 16 → listed foot ≡ true → v ≡ bytes 16 s → m ≡ mapOf v foot → m ≡ blockMap s foot
   unfolding blockMap
@@ -74,7 +81,7 @@ none n = refl
 
 answer-in : (s : List ℕ) (foot : Footprint) → blockMap s foot .answer ≡ mapAnswer s foot
 unfolding blockMap mapAnswer answerOf
-answer-in s foot = go (eqb (length s) 16) (listed foot) refl refl
+answer-in s foot = go (blockRefusal (length s) foot (texelsOf foot)) (eqb (blockRefusal (length s) foot (texelsOf foot)) 0) refl
   where
     v : ℕ
     v = bytes 16 s
@@ -86,25 +93,29 @@ answer-in s foot = go (eqb (length s) 16) (listed foot) refl refl
     inner true e = answer-mapped (fieldsOf v) foot
     inner false e = none a
 
-    go : (t u : Bool) → eqb (length s) 16 ≡ t → listed foot ≡ u
-        → (let x : ℕ = cond (not t) 20 (cond (not u) 21 (cond (ltb (texelsOf foot) (texelsOf foot)) 22 a)) in cond (eqb x 0) (mapOf v foot) (noMap x) .answer ≡ x)
-    go false u p q = none 20
-    go true false p q = none 21
-    go true true p q = rw (le-ltb (texelsOf foot) (texelsOf foot) (omega arith)) (inner (eqb a 0) refl)
+    go : (r : ℕ) (t : Bool) → eqb r 0 ≡ t → (let x : ℕ = cond t a r in cond (eqb x 0) (mapOf v foot) (noMap x) .answer ≡ x)
+    go r true e = inner (eqb a 0) refl
+    go r false e = rw e (none r)
+
+mapped : (s : List ℕ) (foot : Footprint) → mapAnswer s foot ≡ 0 → blockMap s foot ≡ mapOf (bytes 16 s) foot
+unfolding blockMap
+mapped s foot z = rw z
 
 pub legal-map : (s : List ℕ) (foot : Footprint) → blockMap s foot .answer ≡ 0 → LegalMap s foot
-unfolding mapAnswer answerOf blockMap
-legal-map s foot h = go (eqb (length s) 16) (listed foot) refl refl (sym (answer-in s foot) ∙ h)
+unfolding mapAnswer
+legal-map s foot h = go (eqb (blockRefusal (length s) foot (texelsOf foot)) 0) refl
   where
-    a : ℕ
-    a = answer (fieldsOf (bytes 16 s)) foot
+    z : mapAnswer s foot ≡ 0
+    z = sym (answer-in s foot) ∙ h
 
-    go : (t u : Bool) → eqb (length s) 16 ≡ t → listed foot ≡ u → cond (not t) 20 (cond (not u) 21 (cond (ltb (texelsOf foot) (texelsOf foot)) 22 a)) ≡ 0 → LegalMap s foot
-    go false u p q e = absurd (suc-ne-zero 19 e)
-    go true false p q e = absurd (suc-ne-zero 20 e)
-    go true true p q e =
-        let z : a ≡ 0 = rw (le-ltb (texelsOf foot) (texelsOf foot) (omega arith)) at e in
-        record { sixteen = eqb-true (length s) 16 p; listed = q; answer = z; map = rw (p, q, le-ltb (texelsOf foot) (texelsOf foot) (omega arith), z) }
+    go : (t : Bool) → eqb (blockRefusal (length s) foot (texelsOf foot)) 0 ≡ t → LegalMap s foot
+    go true e =
+        let r = eqb-true (blockRefusal (length s) foot (texelsOf foot)) 0 e in
+        let c = accepted (length s) foot (texelsOf foot) r in
+        record { sixteen = c .sixteen; listed = c .listed; answer = sym (answer-accepted s foot (texelsOf foot) r) ∙ z; map = mapped s foot z }
+    go false e =
+        let n = eqb-false (blockRefusal (length s) foot (texelsOf foot)) 0 e in
+        absurd (n (sym (answer-refused s foot (texelsOf foot) _ refl n) ∙ z))
 
 -- ---- how large its numbers are
 pub record Small (m : BlockMap) : Type 0 where

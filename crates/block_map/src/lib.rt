@@ -8,11 +8,9 @@ use params_map::BlockMap;
 pub fn block_map(s: &[u8], f: Footprint) -> BlockMap
     ensures { λ r. ⌜ r ≡ blockMap (now (s .entry)) f ⌝ }
 {
-    if s.len() == 16 {
-        if footprint::is_listed(f) {
-            return params_map::decode_block_map(block_load::load(s), f);
-        }
-        return params_map::no_map(answers::FOOTPRINT);
+    let a = block_refusal::first_refusal(s.len(), f);
+    if a != 0 {
+        return params_map::no_map(a);
     }
-    params_map::no_map(answers::BLOCK_LENGTH)
+    params_map::decode_block_map(block_load::load(s), f)
 }

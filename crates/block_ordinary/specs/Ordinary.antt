@@ -14,6 +14,7 @@ use Rattle.footprint.specs.declared.Footprint.{Footprint}
 use Rattle.lanes.specs.Lanes.{laneAt, eights}
 use Rattle.lanes.specs.declared.Form.{Form}
 use Rattle.lanes.specs.declared.Form.the-variants.{Words, Samples}
+use Rattle.params_rules.specs.Fields.{fieldsOf, answer}
 use Rattle.params.specs.Params.{paramsOf, endsField, weightsField}
 use Rattle.params.specs.declared.Params.{Params}
 use Rattle.endpoints_unquantise.specs.Unquantised.{endpointValues}
@@ -62,6 +63,10 @@ ordinaryLane p v foot t k =
     texelLane (endsOf p (endsField p v)) (weightsIn p foot (weightsField p v)) (partitionsIn p foot) (p .config .planes) (p .channel) t k
 
 -- ---- the code's step
+-- what the block answers at a listed footprint
+abbrev pub blockAnswer : ℕ → Footprint → ℕ
+blockAnswer v foot = answer (fieldsOf v) foot
+
 -- the lanes h with those of a legal block's texels, to the next multiple of 8: their words, or their samples
 abbrev pub formOf : Form → Params → ℕ → Footprint → List ℕ → List ℕ
 formOf Words p v foot h = put (laneAt (ordinaryWord p v foot)) 0 (2 * eights (texelsOf foot)) h

@@ -8,9 +8,8 @@ ghost use Rattle.footprint.specs.Footprints.{mostTexels, mostWeights, listed};
 ghost use Rattle.footprint.specs.Sides.{Sides};
 ghost use Rattle.block_tables.specs.Tables.{Lent};
 ghost use Rattle.params_low.specs.Low.{isVoid};
-ghost use Rattle.params_rules.specs.Fields.{fieldsOf, answer};
 ghost use Rattle.params.specs.Params.{endsField, weightsField};
-ghost use Rattle.block_ordinary.specs.Ordinary.{endsOf, weightsIn, partitionsIn, formOf, lanesIn};
+ghost use Rattle.block_ordinary.specs.Ordinary.{blockAnswer, endsOf, weightsIn, partitionsIn, formOf, lanesIn};
 ghost use Rattle.block_ordinary.specs.Facts.{Facts, Ready};
 use bits::Block;
 use endpoints_colours::Endpoints;
@@ -153,18 +152,18 @@ fn put_ordinary(
     }
 }
 
-// Puts the lanes of a legal block at a listed footprint, with lent tables; a block that breaks a rule puts none. It gives the answer.
-pub fn decode_ordinary(
-    rev: &[u8; 256],
-    t: &[u16; 256],
-    q: &[u16; 128],
+// Reads the parameters of a block at a listed footprint, puts its lanes if it is legal, and gives the answer.
+fn put_if_legal<'a>(
+    rev: &'a [u8; 256],
+    t: &'a [u16; 256],
+    q: &'a [u16; 128],
     b: Block,
     f: Footprint,
     lanes: &mut [u16; LANES],
     form: Form,
 ) -> usize
     requires { ⌜ (Lent (now rev) (now t) (now q)) × ((isVoid (valueOf b) ≡ false) × (listed f ≡ true)) ⌝ }
-    ensures { λ a. ⌜ (a ≡ answer (fieldsOf (valueOf b)) f) × (now (lanes .exit) ≡ lanesIn form (valueOf b) f (now (lanes .entry))) ⌝ }
+    ensures { λ a. ⌜ (a ≡ blockAnswer (valueOf b) f) × (now (lanes .exit) ≡ lanesIn form (valueOf b) f (now (lanes .entry))) ⌝ }
 {
     let p = params::decode_block_params(b, f);
     let a = p.answer;
@@ -173,4 +172,26 @@ pub fn decode_ordinary(
         return answers::LEGAL;
     }
     a
+}
+
+// Puts the lanes of a legal block at a listed footprint, with lent tables; a block that breaks a rule puts none. It gives the answer.
+// Block and footprint are made anew of their numbers, which are then handed over in registers.
+pub fn decode_ordinary<'a>(
+    rev: &'a [u8; 256],
+    t: &'a [u16; 256],
+    q: &'a [u16; 128],
+    b: Block,
+    f: Footprint,
+    lanes: &mut [u16; LANES],
+    form: Form,
+) -> usize
+    requires { ⌜ (Lent (now rev) (now t) (now q)) × ((isVoid (valueOf b) ≡ false) × (listed f ≡ true)) ⌝ }
+    ensures { λ a. ⌜ (a ≡ blockAnswer (valueOf b) f) × (now (lanes .exit) ≡ lanesIn form (valueOf b) f (now (lanes .entry))) ⌝ }
+{
+    let own = Block { lo: b.lo, hi: b.hi };
+    let foot = Footprint {
+        width: f.width,
+        height: f.height,
+    };
+    put_if_legal(rev, t, q, own, foot, lanes, form)
 }

@@ -1,12 +1,11 @@
 -- An image painted whole, and in steps. The bytes d are sixteen for each block.
 -- Assumes nothing.
-use mathlib.Core.Bool.{cond, not}
+use mathlib.Core.Bool.{cond}
 use mathlib.Core.List.{List}
 use Prim.Native.Nat.{ℕ, _+_, _-_, min}
-use lib.Dec.{eqb, ltb}
+use lib.Dec.{eqb}
 use lib.ListN.{length}
-use Rattle.answers.specs.Answers.{noBlocks, pastTheEnd}
-use Rattle.image_shape.specs.Shapes.{totalOf, refusalOf}
+use Rattle.image_shape.specs.Shapes.{totalOf, refusalOf, stepRefusal}
 use Rattle.image_shape.specs.declared.Shape.{Shape}
 use Rattle.image_blocks.specs.Painted.{paintedBlocks, badIn}
 use Rattle.image.specs.declared.Cursor.{Cursor}
@@ -17,13 +16,8 @@ unfoldable pub imageOf : List ℕ → Shape → List ℕ → List ℕ
 imageOf d m out = cond (eqb (refusalOf m (length d) (length out)) 0) (paintedBlocks d m 0 (totalOf m) out) out
 
 -- ---- steps
-unfoldable pub stepAnswer : Cursor → ℕ → ℕ → ℕ → ℕ
-stepAnswer c len blocks room =
-    let a = refusalOf (c .shape) len room in
-    cond (not (eqb a 0)) a
-    (cond (eqb blocks 0) noBlocks
-    (cond (ltb (totalOf (c .shape)) (c .next)) pastTheEnd
-    0))
+abbrev pub stepAnswer : Cursor → ℕ → ℕ → ℕ → ℕ
+stepAnswer c len blocks room = stepRefusal (c .shape) (c .next) len blocks room
 
 -- how many blocks an accepted step paints: those asked for, or those left
 abbrev pub paintedBy : Cursor → ℕ → ℕ

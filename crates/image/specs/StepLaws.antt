@@ -1,16 +1,15 @@
 -- The ways out of an image and of a step.
 -- Assumes nothing.
 use mathlib.Core.Path.{_≡_, refl, sym, _∙_}
-use mathlib.Core.Bool.{Bool, true, false, cond, not}
+use mathlib.Core.Bool.{Bool, true, false, cond}
 use mathlib.Core.List.{List}
-use Prim.Native.Nat.{ℕ, _+_, _-_, _≤_, _<_, min}
+use Prim.Native.Nat.{ℕ, _+_, _-_, _<_, min}
 use native.Mathlib.Omega.{arith}
-use lib.Dec.{eqb, ltb}
+use lib.Dec.{eqb}
 use lib.ListN.{length}
-use borrow.Author.Tests.{eq-eqb, ne-eqb, eqb-true, lt-ltb, le-ltb}
-use Rattle.laws.specs.Numbers.{choice}
+use borrow.Author.Tests.{eq-eqb, ne-eqb, eqb-true}
 use Rattle.image_shape.specs.Shapes.{totalOf, refusalOf}
-use Rattle.image_shape.specs.ShapeLaws.{refusal-small}
+use Rattle.image_shape.specs.ShapeLaws.{step-small as step-small-answer}
 use Rattle.image_shape.specs.declared.Shape.{Shape}
 use Rattle.image_blocks.specs.Painted.{paintedBlocks, badIn}
 use Rattle.image.specs.Image.{imageOf, stepAnswer, paintedBy, movedBy, refusedAt, stepOf, stepped}
@@ -32,48 +31,28 @@ module _ (d : List ℕ) (c : Cursor) (blocks : ℕ) (out : List ℕ) where
   abbrev Outcome : Step → List ℕ → Type 0
   Outcome r now = (r ≡ stepOf d c blocks (length out)) × (now ≡ stepped d c blocks out)
 
-  -- by the step's answer
-  by-answer : (a : ℕ) → stepAnswer c (length d) blocks (length out) ≡ a → (a ≡ 0 → ⊥) → (r : Step) → r ≡ refusedAt c a → Outcome r out
-  unfolding stepOf stepped
-  by-answer a e n r x = rw (e, ne-eqb a 0 n) (x, refl)
-
-  module _ (a : ℕ) (e : a ≡ refusalOf (c .shape) (length d) (length out)) where
+  module _ (a : ℕ) (e : a ≡ stepAnswer c (length d) blocks (length out)) where
     pub step-refused : (r : Step) → (a ≡ 0 → ⊥) → r ≡ refusedAt c a → Outcome r out
-    unfolding stepAnswer
-    step-refused r n x = by-answer a (rw (sym e, ne-eqb a 0 n)) n r x
+    unfolding stepOf stepped
+    step-refused r n x = rw (sym e, ne-eqb a 0 n) (x, refl)
 
-    module _ (z : a ≡ 0) where
-      pub step-none : (r : Step) → blocks ≡ 0 → r ≡ refusedAt c 33 → Outcome r out
-      unfolding stepAnswer
-      step-none r b x = by-answer 33 (rw (sym e, z, b)) (λ y. omega arith) r x
-
-      pub step-past : (r : Step) (t : ℕ) → (blocks ≡ 0 → ⊥) → t ≡ totalOf (c .shape) → t < c .next → r ≡ refusedAt c 34 → Outcome r out
-      unfolding stepAnswer
-      step-past r t b y l x = by-answer 34 (rw (sym e, z, ne-eqb blocks 0 b, lt-ltb (totalOf (c .shape)) (c .next) (rw y at l))) (λ y. omega arith) r x
-
-      pub step-painted : (r : Step) (t n bad : ℕ) (now : List ℕ) → (blocks ≡ 0 → ⊥) → t ≡ totalOf (c .shape) → c .next ≤ t → n ≡ min blocks (t - c .next)
-          → bad ≡ badIn d (c .shape) (c .next) (c .next + n - c .next) → now ≡ paintedBlocks d (c .shape) (c .next) (c .next + n) out → r ≡ movedBy c n bad → Outcome r now
-      unfolding stepAnswer stepOf stepped
-      step-painted r t n bad now b y l en eb ep x =
-          let k : n ≡ paintedBy c blocks = en ∙ rw y in
-          let s : c .next + n - c .next ≡ n = omega arith in
-          let f : bad ≡ badIn d (c .shape) (c .next) n = rw s at eb in
-          rw (sym e, z, ne-eqb blocks 0 b, le-ltb (totalOf (c .shape)) (c .next) (rw y at l), sym k) (x ∙ rw f, ep)
+    pub step-painted : (r : Step) (t n bad : ℕ) (now : List ℕ) → a ≡ 0 → t ≡ totalOf (c .shape) → n ≡ min blocks (t - c .next)
+        → bad ≡ badIn d (c .shape) (c .next) (c .next + n - c .next) → now ≡ paintedBlocks d (c .shape) (c .next) (c .next + n) out → r ≡ movedBy c n bad → Outcome r now
+    unfolding stepOf stepped
+    step-painted r t n bad now z y en eb ep x =
+        let k : n ≡ paintedBy c blocks = en ∙ rw y in
+        let s : c .next + n - c .next ≡ n = omega arith in
+        let f : bad ≡ badIn d (c .shape) (c .next) n = rw s at eb in
+        rw (sym e, z, sym k) (x ∙ rw f, ep)
 
 -- no answer is larger
-step-answer-small : (c : Cursor) (len blocks room : ℕ) → stepAnswer c len blocks room < 35
-unfolding stepAnswer
-step-answer-small c len blocks room =
-    let a = refusalOf (c .shape) len room in
-    choice (not (eqb a 0)) a _ (refusal-small (c .shape) len room) (choice (eqb blocks 0) 33 _ (omega arith) (choice (ltb (totalOf (c .shape)) (c .next)) 34 0 (omega arith) (omega arith)))
-
 pub step-small : (d : List ℕ) (c : Cursor) (blocks room : ℕ) → stepOf d c blocks room .answer < 35
 unfolding stepOf movedBy refusedAt
 step-small d c blocks room = go (eqb (stepAnswer c (length d) blocks room) 0)
   where
     go : (t : Bool) → cond t (movedBy c (paintedBy c blocks) (badIn d (c .shape) (c .next) (paintedBy c blocks))) (refusedAt c (stepAnswer c (length d) blocks room)) .answer < 35
     go true = omega arith
-    go false = step-answer-small c (length d) blocks room
+    go false = step-small-answer (c .shape) (c .next) (length d) blocks room
 
 -- a step's answer is the step's
 pub step-answer : (d : List ℕ) (c : Cursor) (blocks room : ℕ) → stepOf d c blocks room .answer ≡ stepAnswer c (length d) blocks room

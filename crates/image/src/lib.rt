@@ -80,18 +80,12 @@ impl Cursor {
         ensures { λ r. ⌜ (r ≡ stepOf (now («data» .entry)) self blocks (length (now (out .entry)))) × (now (out .exit) ≡ stepped (now («data» .entry)) self blocks (now (out .entry))) ⌝ }
     {
         let m = self.shape;
-        let a = image_shape::refusal(m, data.len(), out.len());
+        let next = self.next;
+        let a = image_shape::step_refusal(m, next, data.len(), blocks, out.len());
         if a != 0 {
             return refused(self, a);
         }
-        if blocks == 0 {
-            return refused(self, answers::NO_BLOCKS);
-        }
         let end = image_shape::total(m);
-        let next = self.next;
-        if end < next {
-            return refused(self, answers::PAST_THE_END);
-        }
         let n = smaller(blocks, end - next);
         let bad = image_blocks::paint_blocks(data, m, next, next + n, out);
         moved(self, n, bad)

@@ -15,11 +15,11 @@ use borrow.Author.Tests.{lt-ltb, le-ltb, le-leb, lt-leb}
 use Rattle.answers.specs.Answers.{isBad}
 use Rattle.footprint.specs.Footprints.{texelsOf}
 use Rattle.lanes.specs.Lanes.{mostLanes, joinedAt}
+use Rattle.block_void.specs.Void.{voidAnswer, voidWord}
 use Rattle.block_map.specs.Answer.{mapAnswer}
-use Rattle.block_ordinary.specs.Ordinary.{lanesOf}
-use Rattle.block.specs.Block.{blockBits, wordAt, outcomeOf}
-use Rattle.block.specs.declared.Outcome.{Outcome}
-use Rattle.block.specs.OutcomeLaws.{outcome-answer, word-legal, word-one, lanes-length}
+use Rattle.block_ordinary.specs.Ordinary.{blockAnswer, lanesOf}
+use Rattle.block.specs.Block.{blockBits, magenta, wordAt}
+use Rattle.block.specs.WordLaws.{answer-mapped, word-void, word-bad, word-legal, lanes-length}
 use Rattle.image_shape.specs.Shapes.{acrossOf, totalOf, pixelsOf, blockOf, texelOf, bytesOf}
 use Rattle.image_shape.specs.ShapeLaws.{Bounded, Sized, sized-bounded}
 use Rattle.image_shape.specs.declared.Shape.{Shape}
@@ -93,17 +93,12 @@ bytes-length d t b e h =
 pub part-is : (d : List ℕ) (b : ℕ) → take (16 * b + 16 - 16 * b) (drop (16 * b) d) ≡ bytesOf d b
 part-is d b = let n : 16 * b + 16 - 16 * b ≡ 16 = omega arith in rw n
 
--- x is the part of the data that was loaded as a block, v that block's number, and r what it came to
-module _ (d : List ℕ) (m : Shape) (places b : ℕ) (s : Sized m (length d) places) (h : b < totalOf m) (x : List ℕ) (ex : x ≡ bytesOf d b)
-    (v : ℕ) (ev : v ≡ blockBits x) (r : Outcome) (er : r ≡ outcomeOf v (m .footprint)) where
-  sixteen : length x ≡ 16
-  sixteen = ap length ex ∙ bytes-length d (totalOf m) b (s .bytes) h
-
-  outcome-is : r ≡ outcomeOf (blockBits x) (m .footprint)
-  outcome-is = er ∙ ap (λ (y : ℕ). outcomeOf y (m .footprint)) ev
-
-  answer-of : r .answer ≡ mapAnswer (bytesOf d b) (m .footprint)
-  answer-of = rw outcome-is (outcome-answer x (m .footprint) sixteen (s .footprint) ∙ ap (λ (y : List ℕ). mapAnswer y (m .footprint)) ex)
+-- x is the part of the data that was loaded as a block, and v that block's number
+module _ (d : List ℕ) (m : Shape) (places b : ℕ) (s : Sized m (length d) places) (h : b < totalOf m) (x : List ℕ) (ex : x ≡ bytesOf d b) (v : ℕ) (ev : v ≡ blockBits x) where
+  answer-of : (a : ℕ) → a ≡ blockAnswer v (m .footprint) → a ≡ mapAnswer (bytesOf d b) (m .footprint)
+  answer-of a e =
+      answer-mapped x (m .footprint) v ev (ap length ex ∙ bytes-length d (totalOf m) b (s .bytes) h) (s .footprint) a e
+      ∙ ap (λ (y : List ℕ). mapAnswer y (m .footprint)) ex
 
   -- painted with g, which has the block's words
   painted-by : (c : ℕ) (g : ℕ → ℕ) (now out : List ℕ) → b ≡ c → ((t : ℕ) → t < texelsOf (m .footprint) → g t ≡ wordAt x (m .footprint) t)
@@ -117,21 +112,29 @@ module _ (d : List ℕ) (m : Shape) (places b : ℕ) (s : Sized m (length d) pla
       eg (texelOf m k) (texel-lt m k (sized-bounded m (length d) places s))
       ∙ ap (λ (z : List ℕ). wordAt z (m .footprint) (texelOf m k)) (ex ∙ ap (bytesOf d) (sym e)))
 
-  abbrev Painted : List ℕ → List ℕ → List ℕ → Type 0
-  Painted lanes now out = (r .answer ≡ mapAnswer (bytesOf d b) (m .footprint)) × ((length lanes ≡ mostLanes) × (now ≡ paintedBlocks d m b (b + 1) out))
+  module _ (c : ℕ) (bc : b ≡ c) (before lanes now out : List ℕ) (l : length before ≡ mostLanes) where
+    abbrev Painted : ℕ → List ℕ → Type 0
+    Painted a lanes = (a ≡ mapAnswer (bytesOf d b) (m .footprint)) × ((length lanes ≡ mostLanes) × (now ≡ paintedBlocks d m b (b + 1) out))
 
-  pub legal-painted : (c : ℕ) (before lanes now out : List ℕ) → b ≡ c → r .answer ≡ 0 → length before ≡ mostLanes → lanes ≡ lanesOf v (m .footprint) before
-      → now ≡ marked (isIn m c (c + 1)) (λ (k : ℕ). joinedAt lanes (texelOf m k)) out → Painted lanes now out
-  legal-painted c before lanes now out bc z l e en =
-      let y : outcomeOf (blockBits x) (m .footprint) .answer ≡ 0 = ap (λ (q : Outcome). q .answer) (sym outcome-is) ∙ z in
-      let f : lanes ≡ lanesOf (blockBits x) (m .footprint) before = e ∙ ap (λ (y : ℕ). lanesOf y (m .footprint) before) ev in
-      (answer-of, (lanes-length v (m .footprint) before lanes e ∙ l, painted-by c (joinedAt lanes) now out bc (λ t k. word-legal x (m .footprint) (s .footprint) before lanes t l f y k) en))
+    abbrev Filled : ℕ → Type 0
+    Filled w = now ≡ marked (isIn m c (c + 1)) (λ (k : ℕ). w) out
 
-  pub one-painted : (c : ℕ) (before lanes now out : List ℕ) → b ≡ c → (r .answer ≡ 0 → ⊥) → length before ≡ mostLanes → lanes ≡ lanesOf v (m .footprint) before
-      → now ≡ marked (isIn m c (c + 1)) (λ (k : ℕ). r .word) out → Painted lanes now out
-  one-painted c before lanes now out bc n l e en =
-      let y : outcomeOf (blockBits x) (m .footprint) .answer ≡ 0 → ⊥ = λ z. n (ap (λ (q : Outcome). q .answer) outcome-is ∙ z) in
-      (answer-of, (lanes-length v (m .footprint) before lanes e ∙ l, painted-by c (λ (t : ℕ). r .word) now out bc (λ t k. ap (λ (q : Outcome). q .word) outcome-is ∙ word-one x (m .footprint) t y) en))
+    pub void-painted : (a w : ℕ) → a ≡ voidAnswer v → w ≡ voidWord v → a ≡ 1 → Filled w → Painted a before
+    void-painted a w e f z en =
+        let k = word-void x (m .footprint) v ev a w e f z in
+        (answer-of a (k .0), (l, painted-by c (λ (t : ℕ). w) now out bc (λ t i. k .1 t) en))
+
+    module _ (a : ℕ) (e : a ≡ blockAnswer v (m .footprint)) (el : lanes ≡ lanesOf v (m .footprint) before) where
+      kept : length lanes ≡ mostLanes
+      kept = lanes-length v (m .footprint) before lanes el ∙ l
+
+      pub bad-painted : (w : ℕ) → w ≡ voidAnswer v → (w ≡ 1 → ⊥) → (a ≡ 0 → ⊥) → Filled magenta → Painted a lanes
+      bad-painted w f y n en =
+          (answer-of a e, (kept, painted-by c (λ (t : ℕ). magenta) now out bc (λ t i. word-bad x (m .footprint) v ev w a f y e n t) en))
+
+      pub legal-painted : a ≡ 0 → now ≡ marked (isIn m c (c + 1)) (λ (k : ℕ). joinedAt lanes (texelOf m k)) out → Painted 0 lanes
+      legal-painted z en =
+          (answer-of 0 (sym z ∙ e), (kept, painted-by c (joinedAt lanes) now out bc (word-legal x (m .footprint) v ev (s .footprint) before lanes l el (sym e ∙ z)) en))
 
 -- ---- block after block
 -- A loop over the blocks from first to before end has come to one: out, which was s, has the blocks before it, and bad of them break a rule.

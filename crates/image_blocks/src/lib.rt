@@ -70,13 +70,13 @@ fn paint_block<'a>(
         image_window::fill_block(block_void::void_color(b), m, at.column, at.row, out);
         return a;
     }
-    let r = block::decode_lanes(rev, t, q, b, m.footprint, lanes, Form::Words);
-    if r.answer == answers::LEGAL {
+    let answer = block_ordinary::decode_ordinary(rev, t, q, b, m.footprint, lanes, Form::Words);
+    if answer == answers::LEGAL {
         image_window::copy_block(lanes, m, at.column, at.row, out);
         return answers::LEGAL;
     }
-    image_window::fill_block(r.word, m, at.column, at.row, out);
-    r.answer
+    image_window::fill_block(block::MAGENTA, m, at.column, at.row, out);
+    answer
 }
 
 // Paints the blocks from `first` to before `end`, and counts those that break a rule.

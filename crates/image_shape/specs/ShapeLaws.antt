@@ -11,7 +11,7 @@ use borrow.Author.Tests.{eq-eqb, ne-eqb, eqb-true, lt-ltb, le-ltb, le-leb, lt-le
 use Rattle.laws.specs.Numbers.{choice}
 use Rattle.footprint.specs.Footprints.{listed}
 use Rattle.footprint.specs.Sides.{Sides, sides-of}
-use Rattle.image_shape.specs.Shapes.{totalOf, pixelsOf, longestSide, isSide, refusalOf}
+use Rattle.image_shape.specs.Shapes.{totalOf, pixelsOf, longestSide, isSide, refusalOf, stepRefusal}
 use Rattle.image_shape.specs.declared.Shape.{Shape}
 
 -- sides that have pixels, and of which no product leaves a word
@@ -104,3 +104,42 @@ sized-bounded m len places s = record { width = s .width; height = s .height; si
 -- an output of the same length has the same room
 pub same-sized : (m : Shape) (len p q : ℕ) → Sized m len p → q ≡ p → Sized m len q
 same-sized m len p q s e = rw e s
+
+-- ---- the checks of a step
+module _ (m : Shape) (next len blocks room : ℕ) where
+  pub step-image : (a : ℕ) → a ≡ refusalOf m len room → (a ≡ 0 → ⊥) → a ≡ stepRefusal m next len blocks room
+  unfolding stepRefusal
+  step-image a e n = rw (sym e, ne-eqb a 0 n)
+
+  module _ (z : refusalOf m len room ≡ 0) where
+    pub step-33 : blocks ≡ 0 → 33 ≡ stepRefusal m next len blocks room
+    unfolding stepRefusal
+    step-33 b = rw (z, eq-eqb blocks 0 b)
+
+    pub step-34 : (t : ℕ) → (blocks ≡ 0 → ⊥) → t ≡ totalOf m → t < next → 34 ≡ stepRefusal m next len blocks room
+    unfolding stepRefusal
+    step-34 t b e l = rw (z, ne-eqb blocks 0 b, lt-ltb (totalOf m) next (rw e at l))
+
+    pub step-0 : (t : ℕ) → (blocks ≡ 0 → ⊥) → t ≡ totalOf m → next ≤ t → 0 ≡ stepRefusal m next len blocks room
+    unfolding stepRefusal
+    step-0 t b e l = rw (z, ne-eqb blocks 0 b, le-ltb (totalOf m) next (rw e at l))
+
+  pub step-small : stepRefusal m next len blocks room < 35
+  unfolding stepRefusal
+  step-small =
+      let a = refusalOf m len room in
+      choice (not (eqb a 0)) a _ (refusal-small m len room) (choice (eqb blocks 0) 33 _ (omega arith) (choice (ltb (totalOf m) next) 34 0 (omega arith) (omega arith)))
+
+  -- a step that is not refused has an accepted image, and starts within it
+  pub step-accepted : (r : ℕ) → r ≡ stepRefusal m next len blocks room → r ≡ 0 → (Sized m len room) × (next ≤ totalOf m)
+  unfolding stepRefusal
+  step-accepted r e z = go (eqb a 0) (eqb blocks 0) (decLt (totalOf m) next) refl (sym e ∙ z)
+    where
+      a : ℕ
+      a = refusalOf m len room
+
+      go : (t b : Bool) → Dec (totalOf m < next) → eqb a 0 ≡ t → cond (not t) a (cond b 33 (cond (ltb (totalOf m) next) 34 0)) ≡ 0 → (Sized m len room) × (next ≤ totalOf m)
+      go false b l x e = absurd (false≢true (sym x ∙ eq-eqb a 0 e))
+      go true true l x e = absurd (suc-ne-zero 32 e)
+      go true false (yes l) x e = absurd (suc-ne-zero 33 (rw (lt-ltb (totalOf m) next l) at e))
+      go true false (no l) x e = (accepted m len room (eqb-true a 0 x), omega arith)

@@ -5,7 +5,7 @@ use mathlib.Core.List.{List}
 use Prim.Native.Nat.{ℕ, _+_, _-_, _*_, _/_, _%_}
 use lib.Dec.{eqb, leb, ltb}
 use lib.ListN.{take, drop}
-use Rattle.answers.specs.Answers.{notListed, imageSide, dataLength, outputTooShort}
+use Rattle.answers.specs.Answers.{notListed, imageSide, dataLength, outputTooShort, noBlocks, pastTheEnd}
 use Rattle.footprint.specs.Footprints.{footprint, listed}
 use Rattle.image_shape.specs.declared.Shape.{Shape}
 
@@ -55,3 +55,12 @@ refusalOf m len room =
     (cond (not (eqb len (16 * totalOf m))) dataLength
     (cond (ltb room (pixelsOf m)) outputTooShort
     0)))
+
+-- and why a step of so many blocks from the block next on is
+unfoldable pub stepRefusal : Shape → ℕ → ℕ → ℕ → ℕ → ℕ
+stepRefusal m next len blocks room =
+    let a = refusalOf m len room in
+    cond (not (eqb a 0)) a
+    (cond (eqb blocks 0) noBlocks
+    (cond (ltb (totalOf m) next) pastTheEnd
+    0))

@@ -1,7 +1,7 @@
 // The shape of an image, how many blocks it has, and whether an image of a shape is accepted.
 ghost use mathlib.Core.Path.{_≡_};
 ghost use Prim.Native.Nat.{_≤_, _<_};
-ghost use Rattle.image_shape.specs.Shapes.{alongOf, totalOf, isSide, refusalOf};
+ghost use Rattle.image_shape.specs.Shapes.{alongOf, totalOf, isSide, refusalOf, stepRefusal};
 ghost use Rattle.image_shape.specs.ShapeLaws.{Bounded};
 use footprint::Footprint;
 
@@ -61,4 +61,21 @@ pub fn refusal(m: Shape, len: usize, room: usize) -> usize
         return answers::IMAGE_SIDE;
     }
     answers::FOOTPRINT
+}
+
+// 0, or why a step of so many blocks from the block `next` on is refused, the image's own refusals first.
+pub fn step_refusal(m: Shape, next: usize, len: usize, blocks: usize, room: usize) -> usize
+    ensures { λ r. ⌜ r ≡ stepRefusal m next len blocks room ⌝ }
+{
+    let a = refusal(m, len, room);
+    if a != 0 {
+        return a;
+    }
+    if blocks == 0 {
+        return answers::NO_BLOCKS;
+    }
+    if total(m) < next {
+        return answers::PAST_THE_END;
+    }
+    0
 }

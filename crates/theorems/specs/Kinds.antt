@@ -21,16 +21,12 @@ use Rattle.params_rules.specs.FieldLaws.{answer-void, told-reserved}
 use Rattle.params.specs.Params.{paramsOf}
 use Rattle.params.specs.Laws.{answer-is}
 use Rattle.block_void.specs.Void.{voidWord}
+use Rattle.block_refusal.specs.RefusalLaws.{Accepted, passes}
 use Rattle.block_map.specs.Answer.{answerOf}
+use Rattle.block_map.specs.AnswerLaws.{answer-accepted}
 use Rattle.block.specs.Block.{magenta, colourOf, wordOfParams, blockWord, wordAt, paintedOf}
 
 -- ---- what is stated
--- sixteen bytes at a listed footprint, with room
-pub record Accepted (s : List ℕ) (foot : Footprint) (places : ℕ) : Type 0 where
-  pub sixteen : length s ≡ 16
-  pub footprint : listed foot ≡ true
-  pub room : texelsOf foot ≤ places
-
 -- the answer a, and the word w at every texel
 pub record OneColour (s : List ℕ) (foot : Footprint) (out : List ℕ) (a w : ℕ) : Type 0 where
   pub answer : answerOf s foot (length out) ≡ a
@@ -63,10 +59,9 @@ reserved-is v r =
     (⊎-elim (λ z. rw (eq-eqb (bitsAt v 0 4) 0 z)) (λ z. rw (eq-eqb (bitsAt v 0 2) 0 (z .0), eq-eqb (bitsAt v 6 3) 7 (z .1)) (or-true (eqb (bitsAt v 0 4) 0))) r)
 
 -- ---- one colour
-module _ (s : List ℕ) (foot : Footprint) (out : List ℕ) (h : Accepted s foot (length out)) where
+module _ (s : List ℕ) (foot : Footprint) (out : List ℕ) (h : Accepted (length s) foot (length out)) where
   answer-in : answerOf s foot (length out) ≡ answer (fieldsOf (bytes 16 s)) foot
-  unfolding answerOf
-  answer-in = rw (eq-eqb (length s) 16 (h .sixteen), h .footprint, le-ltb (length out) (texelsOf foot) (h .room))
+  answer-in = answer-accepted s foot (length out) (passes (length s) foot (length out) h)
 
   -- a block that is not legal has one word, which its answer tells
   one-colour : (a : ℕ) → answer (fieldsOf (bytes 16 s)) foot ≡ a → (a ≡ 0 → ⊥) → a < 20 → OneColour s foot out a (colourOf a (bytes 16 s))

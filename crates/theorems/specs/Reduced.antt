@@ -10,7 +10,7 @@ use native.Mathlib.Decide.{ℕ-discrete}
 use lib.Dec.{eqb}
 use lib.Ieee.{binary32, ofBits}
 use lib.ListN.{getD, length}
-use borrow.Author.Tests.{eq-eqb, ne-eqb, lt-ltb}
+use borrow.Author.Tests.{eq-eqb, ne-eqb}
 use Rattle.bits.specs.Bits.{bitsAt, bytes}
 use Rattle.bits.specs.BitLaws.{bits-lt}
 use Rattle.answers.specs.Answers.{voidExtent}
@@ -45,6 +45,7 @@ use Rattle.block_ordinary.specs.Ordinary.{ordinaryWord, ordinarySample}
 use Rattle.block_ordinary.specs.Facts.{Facts, ready}
 use Rattle.block_ordinary.specs.Parts.{ends-within, weights-light}
 use Rattle.block.specs.Block.{magenta, colourOf, wordOfParams, blockWord, wordAt}
+use Rattle.block_refusal.specs.RefusalLaws.{texel-passes}
 use Rattle.block_channels.specs.BlockChannels.{magentaSamples, samplesBy, ordinarySamples, blockSamples, texelAnswered}
 
 -- ---- what is stated
@@ -132,7 +133,7 @@ reduced-word v foot t l = rw (← (answer-is (fieldsOf v) foot)) (go (ℕ-discre
 pub word-reduces : (s : List ℕ) (foot : Footprint) (t : ℕ) → length s ≡ 16 → listed foot ≡ true → t < texelsOf foot
     → wordAt s foot t ≡ wordFrom (ruleOf (texelAnswered s foot t .answer)) (texelAnswered s foot t .texel)
 unfolding wordAt texelAnswered
-word-reduces s foot t h l b = rw (eq-eqb (length s) 16 h, l, lt-ltb t (texelsOf foot) b) (reduced-word (bytes 16 s) foot t l)
+word-reduces s foot t h l b = rw (texel-passes (length s) foot t h l b) (reduced-word (bytes 16 s) foot t l)
 
 -- ---- numbers and marks
 -- of a sample whose half is a pattern of 16 bits

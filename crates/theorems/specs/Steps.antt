@@ -1,7 +1,7 @@
 -- The theorems of the image: every pixel is painted, what any list of accepted steps comes to, the whole image as its steps, and what a pixel's
 -- word depends on.
 -- Assumes nothing.
-use mathlib.Core.Path.{_≡_, refl, ap, _∙_}
+use mathlib.Core.Path.{_≡_, refl, sym, ap, _∙_}
 use mathlib.Core.Bool.{_&&_}
 use mathlib.Core.List.{List, [], _∷_}
 use Prim.Native.Nat.{ℕ, _+_, _/_, _%_, _≤_, _<_, min, zero-le}
@@ -11,11 +11,11 @@ use native.Mathlib.Omega.{arith}
 use lib.Arith.{digits-lt}
 use lib.Dec.{leb, ltb}
 use lib.ListN.{length}
-use borrow.Author.Tests.{eq-eqb, ne-eqb, lt-ltb, le-ltb, le-leb}
+use borrow.Author.Tests.{eq-eqb, lt-ltb, le-ltb, le-leb}
 use Rattle.laws.specs.Lists.{put}
 use Rattle.block.specs.Block.{wordAt}
 use Rattle.image_shape.specs.Shapes.{acrossOf, downOf, totalOf, pixelsOf, blockOf, texelOf, bytesOf, refusalOf}
-use Rattle.image_shape.specs.ShapeLaws.{Sized, sized-accepted, same-sized}
+use Rattle.image_shape.specs.ShapeLaws.{Sized, sized-accepted, same-sized, step-0}
 use Rattle.image_shape.specs.declared.Shape.{Shape}
 use Rattle.image_window.specs.Windows.{marked, isIn}
 use Rattle.image_window.specs.Places.{block-inside}
@@ -78,8 +78,7 @@ at c n = record { shape = c .shape; next = n }
 
 module _ (d : List ℕ) (c : Cursor) (n room : ℕ) (s : Sized (c .shape) (length d) room) (l : c .next ≤ totalOf (c .shape)) (h : 1 ≤ n) where
   answer-0 : stepAnswer c (length d) n room ≡ 0
-  unfolding stepAnswer
-  answer-0 = rw (sized-accepted (c .shape) (length d) room s, ne-eqb n 0 (λ z. omega arith), le-ltb (totalOf (c .shape)) (c .next) l)
+  answer-0 = sym (step-0 (c .shape) (c .next) (length d) n room (sized-accepted (c .shape) (length d) room s) (totalOf (c .shape)) (λ z. omega arith) refl l)
 
   cursor-is : stepOf d c n room .cursor ≡ at c (c .next + paintedBy c n)
   unfolding stepOf movedBy

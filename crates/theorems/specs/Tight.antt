@@ -64,12 +64,12 @@ use Rattle.texels_numbers.specs.Numbers.{texelIn, numbersFrom, marksFrom, numbe
 use Rattle.texels.specs.Kinds.{startsOf, Ahead, eitherOf, anyOf}
 use Rattle.texels.specs.declared.Starts.{Starts}
 use Rattle.block_void.specs.Void.{voidAnswer, voidWord, voidSamples}
+use Rattle.block_refusal.specs.Refusal.{firstRefusal, blockRefusal, texelRefusal}
 use Rattle.block_map.specs.Answer.{answerOf, blockMap}
 use Rattle.block_ordinary.specs.Ordinary.{lanesIn}
 use Rattle.block_tables.specs.Tables.{theTables}
 use Rattle.block_tables.specs.declared.Tables.{Tables}
-use Rattle.block.specs.Block.{outcomeOf, paintedOf}
-use Rattle.block.specs.declared.Outcome.{Outcome}
+use Rattle.block.specs.Block.{paintedOf}
 use Rattle.block_channels.specs.BlockChannels.{roomOf, numbersOf, marksIn, texelAnswered}
 use Rattle.block_channels.specs.declared.Answered.{Answered}
 
@@ -334,9 +334,14 @@ decode-ordinary b f h form = both ℕ (List ℕ) (answer (fieldsOf (valueOf b)) 
 pub make-tables : Tight Tables (λ r. r ≡ theTables)
 make-tables = one Tables theTables
 
-pub decode-lanes : (b : Block) (f : Footprint) (h : List ℕ) (form : Form)
-    → TightBoth Outcome (List ℕ) (λ r lanes. (r ≡ outcomeOf (valueOf b) f) × (lanes ≡ lanesIn form (valueOf b) f h))
-decode-lanes b f h form = both Outcome (List ℕ) (outcomeOf (valueOf b) f) (lanesIn form (valueOf b) f h)
+pub first-refusal : (len : ℕ) (f : Footprint) → Tight ℕ (λ r. r ≡ firstRefusal len f)
+first-refusal len f = one ℕ (firstRefusal len f)
+
+pub refusal : (len : ℕ) (f : Footprint) (room : ℕ) → Tight ℕ (λ r. r ≡ blockRefusal len f room)
+refusal len f room = one ℕ (blockRefusal len f room)
+
+pub texel-refusal : (len : ℕ) (f : Footprint) (t : ℕ) → Tight ℕ (λ r. r ≡ texelRefusal len f t)
+texel-refusal len f t = one ℕ (texelRefusal len f t)
 
 pub decode-astc-block : (s : List ℕ) (f : Footprint) (o : List ℕ) → TightBoth ℕ (List ℕ) (λ a out. (a ≡ answerOf s f (length o)) × (out ≡ paintedOf s f o))
 decode-astc-block s f o = both ℕ (List ℕ) (answerOf s f (length o)) (paintedOf s f o)

@@ -10,13 +10,14 @@ use Rattle.footprint.specs.declared.Footprint.{Footprint}
 use Rattle.lanes.specs.Lanes.{joinedAt}
 use Rattle.block_map.specs.Answer.{answerOf, blockMap}
 use Rattle.block.specs.Block.{paintedOf}
-use Rattle.image_shape.specs.Shapes.{shape, alongOf, totalOf, texelOf, refusalOf}
+use Rattle.image_shape.specs.Shapes.{shape, alongOf, totalOf, texelOf, refusalOf, stepRefusal}
 use Rattle.image_shape.specs.declared.Shape.{Shape}
 use Rattle.image_window.specs.Windows.{blockAt, marked, isIn}
 use Rattle.image_blocks.specs.Painted.{paintedBlocks, badIn}
 use Rattle.image.specs.Image.{imageOf, stepOf, stepped}
 use Rattle.image.specs.declared.Cursor.{Cursor}
 use Rattle.image.specs.declared.Step.{Step}
+use Rattle.astc_checks.specs.Checks.{optionsRefusal, placesRefusal}
 use Rattle.astc_numbers.specs.Numbers.{mapAnswerIn, mapIn, ledTo}
 use Rattle.astc.specs.Surface.{channelsAnswer, channelsIn, floatsIn, cursor, stepAnswerIn, steppedIn, movedIn}
 use Rattle.theorems.specs.Tight.{Tight, TightBoth, TightThree, one, both, three}
@@ -30,6 +31,9 @@ total m r s p q = p .0 ∙ sym (q .0)
 
 pub refusal : (m : Shape) (len room : ℕ) → Tight ℕ (λ r. r ≡ refusalOf m len room)
 refusal m len room = one ℕ (refusalOf m len room)
+
+pub step-refusal : (m : Shape) (next len blocks room : ℕ) → Tight ℕ (λ r. r ≡ stepRefusal m next len blocks room)
+step-refusal m next len blocks room = one ℕ (stepRefusal m next len blocks room)
 
 module _ (m : Shape) (x y : ℕ) (o : List ℕ) where
   pub copy-block : (lanes : List ℕ) → Tight (List ℕ) (λ out. out ≡ marked (isIn m (blockAt m x y) (blockAt m x y + 1)) (λ (k : ℕ). joinedAt lanes (texelOf m k)) o)
@@ -50,6 +54,12 @@ pub step : (d : List ℕ) (c : Cursor) (blocks : ℕ) (o : List ℕ)
 step d c blocks o = both Step (List ℕ) (stepOf d c blocks (length o)) (stepped d c blocks o)
 
 -- ---- the C surface
+pub options-refusal : (options : ℕ) → Tight ℕ (λ r. r ≡ optionsRefusal options)
+options-refusal options = one ℕ (optionsRefusal options)
+
+pub places-refusal : (m : Shape) (len room places : ℕ) → Tight ℕ (λ r. r ≡ placesRefusal m len room places)
+places-refusal m len room places = one ℕ (placesRefusal m len room places)
+
 pub put-map : (s : List ℕ) (f : Footprint) (o : List ℕ) → TightBoth ℕ (List ℕ) (λ a map. (a ≡ mapAnswerIn (blockMap s f) (length o)) × (map ≡ mapIn (blockMap s f) o))
 put-map s f o = both ℕ (List ℕ) (mapAnswerIn (blockMap s f) (length o)) (mapIn (blockMap s f) o)
 

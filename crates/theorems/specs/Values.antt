@@ -37,6 +37,7 @@ use Rattle.blend.specs.Blend.{between, expand, crateByte, ldrChannel, hdrChanne
 use Rattle.blend.specs.Values.{values as blend-values}
 use Rattle.texels.specs.Texels.{planeOf, texelWord}
 use Rattle.block_void.specs.Void.{voidWord}
+use Rattle.block_refusal.specs.Refusal.{firstRefusal, blockRefusal}
 use Rattle.block_map.specs.Answer.{answerOf, mapAnswer, blockMap}
 use Rattle.block_ordinary.specs.Ordinary.{endsOf, weightsIn, partitionsIn, ordinaryWord}
 use Rattle.block.specs.Block.{colourOf, wordOfParams, blockWord, wordAt, paintedOf}
@@ -81,7 +82,7 @@ pub record Values : Type 0 where
   pub P12-zero : baseOf 0x40 0 ≡ 0
 
 pub values : Values
-unfolding listOf mapAt put bitsAt bytes reversed oneOf2 listed ranges rangeOf tops topOf totalOf copies repeated spelt sizeOf digitsOf valueIn groupOf valueAt valuesOf voidByte isVoid confLen lowOf extentOf classIn modeIn valuesTo cost isReserved lacksDH gridLow gridHigh modeGrid weightR weightH weightD partsOf numberOf modeBase lowModes extraModeBits partitionsOf configOf endVerdict verdict fieldsOf answer p1 p2 p3 widest legalMap noMap mapIn channelOf upperOf codeIn legal refused paramsIn tritRows quintRows byRow unquantise endpointValue endpointValues luminance byMode endpointsOf valuesAt countTo partitionEndpoints endpointsList alone table joined digit expanded raised weightOf stepOf placeOf factors dot infilled infillAt texelOf infillOf gridOf weightAt weightsOf between expand crateByte planeOf texelWord voidWord answerOf mapAnswer blockMap endsOf weightsIn partitionsIn ordinaryWord colourOf wordOfParams blockWord wordAt paintedOf p4 before after
+unfolding listOf mapAt put bitsAt bytes reversed oneOf2 listed ranges rangeOf tops topOf totalOf copies repeated spelt sizeOf digitsOf valueIn groupOf valueAt valuesOf voidByte isVoid confLen lowOf extentOf classIn modeIn valuesTo cost isReserved lacksDH gridLow gridHigh modeGrid weightR weightH weightD partsOf numberOf modeBase lowModes extraModeBits partitionsOf configOf endVerdict verdict fieldsOf answer p1 p2 p3 widest legalMap noMap mapIn channelOf upperOf codeIn legal refused paramsIn tritRows quintRows byRow unquantise endpointValue endpointValues luminance byMode endpointsOf valuesAt countTo partitionEndpoints endpointsList alone table joined digit expanded raised weightOf stepOf placeOf factors dot infilled infillAt texelOf infillOf gridOf weightAt weightsOf between expand crateByte planeOf texelWord voidWord firstRefusal blockRefusal answerOf mapAnswer blockMap endsOf weightsIn partitionsIn ordinaryWord colourOf wordOfParams blockWord wordAt paintedOf p4 before after
 values =
     record {
       P1 = refl;

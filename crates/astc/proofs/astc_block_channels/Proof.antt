@@ -1,5 +1,6 @@
--- `astc::astc_block_channels`: options are looked at first, and the answer fits in 32 bits. Assumes nothing.
+-- `astc::astc_block_channels` meets its contract: options are looked at first, and either answer fits in 32 bits. Assumes nothing.
 use Rattle.block_map.specs.AnswerLaws.{answer-small}
+use Rattle.astc_checks.specs.CheckLaws.{options-small}
 use Rattle.astc.specs.SurfaceLaws.{optioned, answered}
 use Prim.Native.Nat.{_<_}
 use native.Mathlib.Omega.{arith}
@@ -7,11 +8,14 @@ use borrow.Author.Needs.{needs}
 use Rattle.astc.proofs.astc_block_channels.Statement.{statement}
 use Rattle.astc.proofs.astc_block_channels.Tie as tie
 
+options-refusal-requires : tie.Need-options-refusal-requires
+options-refusal-requires c κs = search needs
+
 cast-result : tie.Need-cast-result
-cast-result c = search needs
+cast-result c = let d = c .before .options-refusal in let l : d .result < 24 = rw (d .ensures) (options-small _) in omega (arith, l)
 
 returns : tie.Need-returns
-returns c = optioned _ _ _ _ _ (c .if1 .taken)
+returns c = optioned _ _ _ _ _ _ (c .before .options-refusal .ensures) (c .if1 .taken)
 
 decode-channels-requires : tie.Need-decode-channels-requires
 decode-channels-requires c κs = search needs
@@ -26,12 +30,17 @@ same-length-2 : tie.Need-same-length-2
 same-length-2 c = search needs
 
 returns-2 : tie.Need-returns-2
-returns-2 c = let s = c .before .before .before .before .before .before .before .before .before .before .before .args in answered _ _ _ (s .channels .now) (s .floats .now) _ _ _ (c .before .before .before .before .before .before .before .if1 .left) (c .before .before .before .before .decode-channels .ensures)
+returns-2 c =
+    let decoded = c .before .before .before .before in
+    let tested = decoded .before .before .before in
+    let start = tested .before .before .before .before .before in
+    answered _ _ _ (start .args .channels .now) (start .args .floats .now) _ (tested .before .options-refusal .ensures) _ _ _ (tested .if1 .left) (decoded .decode-channels .ensures)
 
 pub astc-block-channels-spec : {M : Type 1} → statement M
 astc-block-channels-spec =
     tie.close
     (tie.spec
+    options-refusal-requires
     cast-result
     returns
     decode-channels-requires

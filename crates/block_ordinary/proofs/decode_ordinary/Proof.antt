@@ -1,30 +1,13 @@
--- `block_ordinary::decode_ordinary` meets its contract by the answer: a legal block's lanes are put, and no other's. Assumes nothing.
-use Rattle.block_ordinary.specs.Facts.{ready}
-use Rattle.block_ordinary.specs.Parts.{answer-told, lanes-legal, lanes-none}
-use mathlib.Core.Path.{sym, _∙_}
-use borrow.Author.Needs.{needs}
+-- `block_ordinary::decode_ordinary` meets its contract, which is that of what it calls: its block and its footprint are equal to those handed
+-- over. Assumes nothing.
 use Rattle.block_ordinary.proofs.decode_ordinary.Statement.{statement}
 use Rattle.block_ordinary.proofs.decode_ordinary.Tie as tie
 
-decode-block-params-requires : tie.Need-decode-block-params-requires
-decode-block-params-requires c κs = search needs
-
-put-ordinary-requires : tie.Need-put-ordinary-requires
-put-ordinary-requires c κs =
-    let s = c .before .before .before in
-    (s .pre .0, ready _ _ _ (c .before .before .decode-block-params .ensures) (c .before .if1 .taken) (s .pre .1 .1))
+put-if-legal-requires : tie.Need-put-if-legal-requires
+put-if-legal-requires c κs = c .before .pre
 
 returns : tie.Need-returns
-returns c =
-    let e = c .before .before .before .decode-block-params .ensures in
-    let z = c .before .before .if1 .taken in
-    (sym z ∙ answer-told _ _ _ e, lanes-legal _ _ _ e _ _ _ z (c .put-ordinary .ensures))
-
-returns-2 : tie.Need-returns-2
-returns-2 c =
-    let e = c .before .decode-block-params .ensures in
-    (answer-told _ _ _ e, lanes-none _ _ _ e _ _ (c .if1 .left))
+returns c = c .put-if-legal .ensures
 
 pub decode-ordinary-spec : {M : Type 1} → statement M
-decode-ordinary-spec =
-    tie.close (tie.spec decode-block-params-requires put-ordinary-requires returns returns-2)
+decode-ordinary-spec = tie.close (tie.spec put-if-legal-requires returns)

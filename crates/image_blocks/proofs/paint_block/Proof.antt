@@ -1,11 +1,9 @@
--- `image_blocks::paint_block` paints what the block comes to: its words copied from lanes, or one word everywhere. Assumes nothing.
+-- `image_blocks::paint_block` meets its contract by the block's kind: a void or a bad one has one word everywhere, a legal one those of its
+-- lanes. Assumes nothing.
 use Rattle.block_void.specs.VoidLaws.{void-false}
-use Rattle.block.specs.OutcomeLaws.{void-is, void-lanes}
 use Rattle.image_shape.specs.ShapeLaws.{sized-bounded}
 use Rattle.image_blocks.specs.Spots.{at-inside}
-use Rattle.image_blocks.specs.PaintedLaws.{part-is, legal-painted, one-painted}
-use native.Mathlib.Nat.{suc-ne-zero}
-use mathlib.Core.Path.{sym, _∙_}
+use Rattle.image_blocks.specs.PaintedLaws.{part-is, void-painted, bad-painted, legal-painted}
 use borrow.Author.Needs.{needs}
 use Rattle.image_blocks.proofs.paint_block.Statement.{statement}
 use Rattle.image_blocks.proofs.paint_block.Tie as tie
@@ -36,7 +34,8 @@ void-color-requires c κs = search needs
 
 fill-block-requires : tie.Need-fill-block-requires
 fill-block-requires c κs =
-    let given = c .before .before .before .before .before .before .before .before .before .pre .1 in
+    let start = c .before .before .before .before .before .before .before .before .before in
+    let given = start .pre .1 in
     (sized-bounded _ _ _ (given .0), (at-inside _ _ (given .1 .1 .0) (given .1 .0), given .0 .room))
 
 same-length : tie.Need-same-length
@@ -47,21 +46,19 @@ returns c =
     let asked = c .before .before .before .before .before .before in
     let start = asked .before .before .before .before .before .before in
     let given = start .pre .1 in
-    let told = asked .void-answer .ensures in
-    let is-void = c .before .before .before .before .before .if1 .taken in
-    one-painted (start .args .«data» .now) (start .args .m) _ (start .args .at .block) (given .0) (given .1 .0) _ (part-is (start .args .«data» .now) (start .args .at .block)) _ (asked .before .load .ensures) _
-    (void-is _ _ _ _ told (c .before .before .before .before .void-color .ensures) is-void) _ (start .args .lanes .now) (start .args .lanes .now) _ _ (given .1 .1 .0 .block) (λ y. suc-ne-zero 0 (sym is-void ∙ y)) (given .1 .1 .1)
-    (void-lanes _ _ _ _ told is-void) (c .before .before .fill-block .ensures)
+    void-painted (start .args .«data» .now) (start .args .m) _ (start .args .at .block) (given .0) (given .1 .0) _ (part-is (start .args .«data» .now) (start .args .at .block)) _ (asked .before .load .ensures)
+    _ (given .1 .1 .0 .block) (start .args .lanes .now) (start .args .lanes .now) _ _ (given .1 .1 .1) _ _ (asked .void-answer .ensures) (c .before .before .before .before .void-color .ensures) (c .before .before .before .before .before .if1 .taken) (c .before .before .fill-block .ensures)
 
-decode-lanes-requires : tie.Need-decode-lanes-requires
-decode-lanes-requires c κs =
+decode-ordinary-requires : tie.Need-decode-ordinary-requires
+decode-ordinary-requires c κs =
     let asked = c .before .before in
-    let given = asked .before .before .before .before .before .before .pre in
-    (given .0, (void-false _ _ (asked .void-answer .ensures) (c .before .if1 .left), given .1 .0 .footprint))
+    let start = asked .before .before .before .before .before .before in
+    (start .pre .0, (void-false _ _ (asked .void-answer .ensures) (c .before .if1 .left), start .pre .1 .0 .footprint))
 
 copy-block-requires : tie.Need-copy-block-requires
 copy-block-requires c κs =
-    let given = c .before .before .before .before .before .before .before .before .before .before .before .before .before .pre .1 in
+    let start = c .before .before .before .before .before .before .before .before .before .before .before .before in
+    let given = start .pre .1 in
     (sized-bounded _ _ _ (given .0), (at-inside _ _ (given .1 .1 .0) (given .1 .0), given .0 .room))
 
 same-length-2 : tie.Need-same-length-2
@@ -69,18 +66,17 @@ same-length-2 c = search needs
 
 returns-2 : tie.Need-returns-2
 returns-2 c =
-    let decoded = c .before .before .before .before .before .before .before in
+    let decoded = c .before .before .before .before .before .before in
     let loaded = decoded .before .before .before .before in
     let start = loaded .before .before .before .before .before in
     let given = start .pre .1 in
-    let is-legal = c .before .before .before .before .before .if2 .taken in
-    rw (← is-legal)
-    (legal-painted (start .args .«data» .now) (start .args .m) _ (start .args .at .block) (given .0) (given .1 .0) _ (part-is (start .args .«data» .now) (start .args .at .block)) _ (loaded .load .ensures) _
-    (decoded .decode-lanes .ensures .0) _ (start .args .lanes .now) _ _ _ (given .1 .1 .0 .block) is-legal (given .1 .1 .1) (decoded .decode-lanes .ensures .1) (c .before .before .copy-block .ensures))
+    legal-painted (start .args .«data» .now) (start .args .m) _ (start .args .at .block) (given .0) (given .1 .0) _ (part-is (start .args .«data» .now) (start .args .at .block)) _ (loaded .load .ensures)
+    _ (given .1 .1 .0 .block) (start .args .lanes .now) _ _ _ (given .1 .1 .1) _ (decoded .decode-ordinary .ensures .0) (decoded .decode-ordinary .ensures .1) (c .before .before .before .before .before .if2 .taken) (c .before .before .copy-block .ensures)
 
 fill-block-requires-2 : tie.Need-fill-block-requires-2
 fill-block-requires-2 c κs =
-    let given = c .before .before .before .before .before .before .before .before .before .before .before .before .pre .1 in
+    let start = c .before .before .before .before .before .before .before .before .before .before .before in
+    let given = start .pre .1 in
     (sized-bounded _ _ _ (given .0), (at-inside _ _ (given .1 .1 .0) (given .1 .0), given .0 .room))
 
 same-length-3 : tie.Need-same-length-3
@@ -88,13 +84,13 @@ same-length-3 c = search needs
 
 returns-3 : tie.Need-returns-3
 returns-3 c =
-    let decoded = c .before .before .before .before .before .before in
-    let loaded = decoded .before .before .before .before in
-    let start = loaded .before .before .before .before .before in
+    let decoded = c .before .before .before .before .before in
+    let tested = decoded .before .before in
+    let asked = tested .before in
+    let start = asked .before .before .before .before .before .before in
     let given = start .pre .1 in
-    one-painted (start .args .«data» .now) (start .args .m) _ (start .args .at .block) (given .0) (given .1 .0) _ (part-is (start .args .«data» .now) (start .args .at .block)) _ (loaded .load .ensures) _
-    (decoded .decode-lanes .ensures .0) _ (start .args .lanes .now) _ _ _ (given .1 .1 .0 .block) (c .before .before .before .before .if2 .left) (given .1 .1 .1) (decoded .decode-lanes .ensures .1)
-    (c .before .before .fill-block2 .ensures)
+    bad-painted (start .args .«data» .now) (start .args .m) _ (start .args .at .block) (given .0) (given .1 .0) _ (part-is (start .args .«data» .now) (start .args .at .block)) _ (asked .before .load .ensures)
+    _ (given .1 .1 .0 .block) (start .args .lanes .now) _ _ _ (given .1 .1 .1) _ (decoded .decode-ordinary .ensures .0) (decoded .decode-ordinary .ensures .1) _ (asked .void-answer .ensures) (tested .if1 .left) (c .before .before .before .before .if2 .left) (c .before .before .fill-block2 .ensures)
 
 pub paint-block-spec : {M : Type 1} → statement M
 paint-block-spec =
@@ -111,7 +107,7 @@ paint-block-spec =
     fill-block-requires
     same-length
     returns
-    decode-lanes-requires
+    decode-ordinary-requires
     copy-block-requires
     same-length-2
     returns-2

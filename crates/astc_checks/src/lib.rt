@@ -1,0 +1,28 @@
+// What the C surface asks of a call before what it calls does: that its options are listed, and that where a step led has places.
+ghost use mathlib.Core.Path.{_≡_};
+ghost use Rattle.astc_checks.specs.Checks.{optionsRefusal, placesRefusal};
+use image_shape::Shape;
+
+// 0, or why a call with these options is refused.
+pub fn options_refusal(options: u32) -> usize
+    ensures { λ r. ⌜ r ≡ optionsRefusal options ⌝ }
+{
+    if options != 0 {
+        return answers::OPTIONS;
+    }
+    0
+}
+
+// 0 where a step has the three places that it tells C of, or else why it is refused, the image's own refusals first.
+pub fn places_refusal(m: Shape, len: usize, room: usize, places: usize) -> usize
+    ensures { λ r. ⌜ r ≡ placesRefusal m len room places ⌝ }
+{
+    if places < 3 {
+        let a = image_shape::refusal(m, len, room);
+        if a == 0 {
+            return answers::OUTPUT_TOO_SHORT;
+        }
+        return a;
+    }
+    0
+}
