@@ -12,7 +12,7 @@ use Rattle.footprint.specs.Footprints.{texelsOf, mostTexels, listed}
 use Rattle.footprint.specs.Sides.{sides-of}
 use Rattle.footprint.specs.declared.Footprint.{Footprint}
 use Rattle.blend.specs.Blend.{crateByte}
-use Rattle.channels.specs.Channels.{numberOf, marksOf, texelOf}
+use Rattle.channels.specs.Channels.{marksOf, texelOf}
 use Rattle.channels.specs.declared.Samples.{Samples}
 use Rattle.channels.specs.declared.Texel.{Texel}
 use Rattle.endpoints_colours.specs.declared.Mark.{Mark}
@@ -28,8 +28,10 @@ use Rattle.params.specs.Laws.{answer-is}
 use Rattle.texels.specs.Texels.{blendedAt, sampleOf, texelSample}
 use Rattle.texels.specs.Samples.{laneBy, texelLane, samplesIn}
 use Rattle.texels.specs.SampleLaws.{sample-at}
-use Rattle.texels_numbers.specs.Numbers.{sampleIn, texelIn, channelAt, numbersBy, numbersFrom, marksFrom, numbersIn}
-use Rattle.texels_numbers.specs.NumberLaws.{read-byte, read-half, fours-same}
+use Rattle.texels_read.specs.Read.{sampleIn, texelIn}
+use Rattle.texels_read.specs.ReadLaws.{read-byte, read-half}
+use Rattle.texels_numbers.specs.Numbers.{fourOf, numbersBy, numbersFrom, marksFrom, numbersIn}
+use Rattle.texels_numbers.specs.NumberLaws.{fours-same}
 use Rattle.block_void.specs.Void.{voidAnswer, voidSamples}
 use Rattle.block_void.specs.VoidLaws.{void-true}
 use Rattle.block_refusal.specs.Refusal.{blockRefusal, texelRefusal}
@@ -104,7 +106,7 @@ module _ (s : List ℕ) (foot : Footprint) (v : ℕ) (ev : v ≡ blockBits s) wh
         → now ≡ put (numbersBy f) 0 (4 * texelsOf foot) out → marks ≡ put (λ (t : ℕ). marksOf (f t)) 0 (texelsOf foot) floats → Put a
     put-by f a e same h k = (
       answer-in a e,
-      h ∙ fours-same _ _ (texelsOf foot) out (λ t j l b. ap (λ (x : Samples). numberOf (channelAt x j)) (samples-in (f t) t (same t l))),
+      h ∙ fours-same _ _ (texelsOf foot) out (λ t l. ap fourOf (samples-in (f t) t (same t l))),
       k ∙ put-same _ _ 0 (texelsOf foot) floats (λ t j l. ap marksOf (samples-in (f t) t (same t l))),
     )
 

@@ -95,7 +95,7 @@ fn texel_at(s: &[u8], f: Footprint, t: usize) -> Answered
     if answer == answers::LEGAL {
         return Answered {
             answer: answers::LEGAL,
-            texel: texel_of(texels_numbers::samples_at(&lanes, t)),
+            texel: texel_of(texels_read::samples_at(&lanes, t)),
         };
     }
     Answered {

@@ -4,12 +4,19 @@ ghost use Prim.Native.Nat.{ℕ, _+_, _*_, _≤_, _<_};
 ghost use lib.ListN.{length};
 ghost use Rattle.laws.specs.Lists.{put};
 ghost use Rattle.footprint.specs.Footprints.{mostTexels};
-ghost use Rattle.channels.specs.Channels.{finite as finiteOf, floatBits, numberOf, markOf, marksOf};
-ghost use Rattle.texels_numbers.specs.Numbers.{sampleIn, texelIn, fourAt, numbersIn, numbersFrom, marksFrom};
+ghost use Rattle.channels.specs.Channels.{floatBits, numberOf, markOf, marksOf};
+ghost use Rattle.texels_numbers.specs.Numbers.{fourOf, fourAt, fours, numbersIn, numbersFrom, marksFrom};
 use channels::Sample;
 use channels::Samples;
-use footprint::TEXELS;
 use lanes::LANES;
+
+// The four numbers of a texel.
+pub struct Four {
+    pub r: u32,
+    pub g: u32,
+    pub b: u32,
+    pub a: u32,
+}
 
 // The 32 bits of the float that equals the half h, and of a NaN those that C is promised.
 fn float_bits(h: u16) -> u32
@@ -29,6 +36,22 @@ fn number_of(s: Sample) -> u32
     match s {
         Sample::Byte(b) => b as u32,
         Sample::Half(h) => float_bits(h),
+    }
+}
+
+// A texel's channels as numbers.
+fn four_of(s: Samples) -> Four
+    ensures { λ r. ⌜ r ≡ fourOf s ⌝ }
+{
+    let r = s.r;
+    let g = s.g;
+    let b = s.b;
+    let a = s.a;
+    Four {
+        r: number_of(r),
+        g: number_of(g),
+        b: number_of(b),
+        a: number_of(a),
     }
 }
 
@@ -52,68 +75,37 @@ fn marks_of(s: Samples) -> u8
     mark_of(r) + 2 * mark_of(g) + 4 * mark_of(b) + 8 * mark_of(a)
 }
 
-// The largest finite half in place of infinity and of every NaN, for halves with no sign.
-fn finite(h: u16) -> u16
-    ensures { λ r. ⌜ r ≡ finiteOf h ⌝ }
-{
-    if h < 0x7bff { h } else { 0x7bff }
-}
-
-// The sample that a lane holds.
-fn sample_of(x: u16) -> Sample
-    ensures { λ r. ⌜ r ≡ sampleIn x ⌝ }
-{
-    if x < 0x8000 {
-        Sample::Byte((x % 256) as u8)
-    } else {
-        Sample::Half(finite(x - 0x8000))
-    }
-}
-
-// The samples of texel i, from the lanes of a block.
-pub fn samples_at(lanes: &[u16; LANES], i: usize) -> Samples
-    requires { ⌜ i < mostTexels ⌝ }
-    ensures { λ r. ⌜ r ≡ texelIn (now (lanes .entry)) i ⌝ }
-{
-    Samples {
-        r: sample_of(lanes[i]),
-        g: sample_of(lanes[TEXELS + i]),
-        b: sample_of(lanes[2 * TEXELS + i]),
-        a: sample_of(lanes[3 * TEXELS + i]),
-    }
-}
-
 // Puts the four numbers of texel i.
-fn put_four(out: &mut [u32], i: usize, r: u32, g: u32, b: u32, a: u32)
+fn put_four(out: &mut [u32], i: usize, k: Four)
     requires { ⌜ (i < mostTexels) × (4 * i + 3 < length (now out)) ⌝ }
-    ensures { λ _. ⌜ now (out .exit) ≡ fourAt (now (out .entry)) i r g b a ⌝ }
+    ensures { λ _. ⌜ now (out .exit) ≡ fourAt (now (out .entry)) i k ⌝ }
 {
-    out[4 * i] = r;
-    out[4 * i + 1] = g;
-    out[4 * i + 2] = b;
-    out[4 * i + 3] = a;
+    out[4 * i] = k.r;
+    out[4 * i + 1] = k.g;
+    out[4 * i + 2] = k.b;
+    out[4 * i + 3] = k.a;
 }
 
-// Puts the numbers of n texels, from the lanes of a block.
+// Puts the numbers of n texels, from the lanes of a block. They are worked out in the loop and not by `four_of`, so that the compiler still knows
+// of a half that it is finite.
 fn put_numbers(out: &mut [u32], n: usize, lanes: &[u16; LANES])
     requires { ⌜ (n ≤ mostTexels) × (4 * n ≤ length (now out)) ⌝ }
     ensures { λ _. ⌜ now (out .exit) ≡ put (numbersFrom (now (lanes .entry))) 0 (4 * n) (now (out .entry)) ⌝ }
 {
     let mut i = 0;
     while i < n {
-        let s = samples_at(lanes, i);
+        let s = texels_read::samples_at(lanes, i);
         let r = s.r;
         let g = s.g;
         let b = s.b;
         let a = s.a;
-        put_four(
-            out,
-            i,
-            number_of(r),
-            number_of(g),
-            number_of(b),
-            number_of(a),
-        );
+        let k = Four {
+            r: number_of(r),
+            g: number_of(g),
+            b: number_of(b),
+            a: number_of(a),
+        };
+        put_four(out, i, k);
         i += 1;
     }
 }
@@ -125,7 +117,7 @@ fn put_marks(floats: &mut [u8], n: usize, lanes: &[u16; LANES])
 {
     let mut i = 0;
     while i < n {
-        floats[i] = marks_of(samples_at(lanes, i));
+        floats[i] = marks_of(texels_read::samples_at(lanes, i));
         i += 1;
     }
 }
@@ -139,22 +131,14 @@ pub fn put_texels(out: &mut [u32], floats: &mut [u8], n: usize, lanes: &[u16; LA
     put_marks(floats, n, lanes);
 }
 
-// Puts the numbers of n texels that all have the samples s.
-fn fill_numbers(out: &mut [u32], n: usize, s: Samples)
+// Puts the same four numbers for each of n texels.
+fn fill_numbers(out: &mut [u32], n: usize, k: Four)
     requires { ⌜ (n ≤ mostTexels) × (4 * n ≤ length (now out)) ⌝ }
-    ensures { λ _. ⌜ now (out .exit) ≡ put (numbersIn s) 0 (4 * n) (now (out .entry)) ⌝ }
+    ensures { λ _. ⌜ now (out .exit) ≡ put (fours (λ (i : ℕ). k)) 0 (4 * n) (now (out .entry)) ⌝ }
 {
-    let red = s.r;
-    let green = s.g;
-    let blue = s.b;
-    let alpha = s.a;
-    let r = number_of(red);
-    let g = number_of(green);
-    let b = number_of(blue);
-    let a = number_of(alpha);
     let mut i = 0;
     while i < n {
-        put_four(out, i, r, g, b, a);
+        put_four(out, i, k);
         i += 1;
     }
 }
@@ -175,6 +159,6 @@ pub fn fill_texels(out: &mut [u32], floats: &mut [u8], n: usize, s: Samples)
     requires { ⌜ (n ≤ mostTexels) × (4 * n ≤ length (now out)) × (n ≤ length (now floats)) ⌝ }
     ensures { λ _. ⌜ (now (out .exit) ≡ put (numbersIn s) 0 (4 * n) (now (out .entry))) × (now (floats .exit) ≡ put (λ (i : ℕ). marksOf s) 0 n (now (floats .entry))) ⌝ }
 {
-    fill_numbers(out, n, s);
+    fill_numbers(out, n, four_of(s));
     fill_marks(floats, n, marks_of(s));
 }

@@ -36,9 +36,8 @@ use Rattle.block_ordinary.specs.Facts.{Facts, ready}
 use Rattle.block_ordinary.specs.Parts.{ends-within, weights-light}
 use Rattle.block_map.specs.Answer.{answerOf, mapAnswer, blockMap}
 use Rattle.block_map.specs.AnswerLaws.{LegalMap, legal-map}
-use Rattle.channels.specs.Channels.{numberOf, marksOf}
-use Rattle.channels.specs.declared.Samples.{Samples}
-use Rattle.texels_numbers.specs.Numbers.{channelAt}
+use Rattle.channels.specs.Channels.{marksOf}
+use Rattle.texels_numbers.specs.Numbers.{fourOf}
 use Rattle.texels_numbers.specs.NumberLaws.{fours-same}
 use Rattle.block_channels.specs.BlockChannels.{blockSamples, roomOf, numbersOf, marksIn}
 use Rattle.block.specs.Block.{wordOfParams, blockWord, wordAt, paintedOf}
@@ -189,7 +188,7 @@ module _ (s s′ : List ℕ) (foot : Footprint) (l : LegalMap s foot) (h : lengt
   numbers-same marks out =
       rw (answer-same (roomOf (length out) marks))
       (ap (λ (x : List ℕ). cond (ltb (answerOf s′ foot (roomOf (length out) marks)) 20) x out)
-      (fours-same _ _ (texelsOf foot) out (λ t k x y. ap (λ (z : Samples). numberOf (channelAt z k)) (samples-same (bytes 16 s) (bytes 16 s′) foot t legal-answer b))))
+      (fours-same _ _ (texelsOf foot) out (λ t x. ap fourOf (samples-same (bytes 16 s) (bytes 16 s′) foot t legal-answer b))))
 
   marks-same : (places : ℕ) (floats : List ℕ) → marksIn s foot places floats ≡ marksIn s′ foot places floats
   unfolding marksIn

@@ -60,7 +60,8 @@ use Rattle.channels.specs.declared.Texel.{Texel}
 use Rattle.lanes.specs.declared.Form.{Form}
 use Rattle.texels.specs.Texels.{texelWord}
 use Rattle.texels.specs.Samples.{texelLane, samplesIn}
-use Rattle.texels_numbers.specs.Numbers.{texelIn, numbersFrom, marksFrom, numbersIn}
+use Rattle.texels_read.specs.Read.{texelIn}
+use Rattle.texels_numbers.specs.Numbers.{numbersFrom, marksFrom, numbersIn}
 use Rattle.texels.specs.Kinds.{startsOf, Ahead, eitherOf, anyOf}
 use Rattle.texels.specs.declared.Starts.{Starts}
 use Rattle.block_void.specs.Void.{voidAnswer, voidWord, voidSamples}

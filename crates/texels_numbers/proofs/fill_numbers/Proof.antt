@@ -1,32 +1,19 @@
 -- `texels_numbers::fill_numbers` meets its contract by its loop: before turn i the first i texels have the four numbers. Assumes nothing.
-use borrow.Author.Needs.{needs}
 use Rattle.texels_numbers.specs.Numbers.{fours}
-use Rattle.texels_numbers.specs.NumberLaws.{allOf, four-stores, filled-is}
+use Rattle.texels_numbers.specs.NumberLaws.{four-stores}
 use lib.ListN.{length}
 use Rattle.laws.specs.Lists.{put, put-none, put-end, length-put}
-use Prim.Native.Nat.{_*_, _-_, _≤_, zero-le}
+use Prim.Native.Nat.{ℕ, _*_, _-_, _≤_, zero-le}
 use mathlib.Core.Path.{_≡_, refl, ap, _∙_}
 use native.Mathlib.Omega.{arith}
 use Rattle.texels_numbers.proofs.fill_numbers.Statement.{statement}
 use Rattle.texels_numbers.proofs.fill_numbers.Tie as tie
 
 abbrev Inv-loop : tie.InvT-loop
-Inv-loop out₀ n r g b a i₀ out i = (i ≤ n) × (out ≡ put (fours (allOf r g b a)) 0 (4 * i) out₀)
+Inv-loop out₀ n k i₀ out i = (i ≤ n) × (out ≡ put (fours (λ (t : ℕ). k)) 0 (4 * i) out₀)
 
 abbrev μ-loop : tie.MeasureT-loop
-μ-loop out₀ n r g b a i₀ out i = n - i
-
-number-of-requires : tie.Need-number-of-requires Inv-loop μ-loop
-number-of-requires c κs = search needs
-
-number-of-requires-2 : tie.Need-number-of-requires-2 Inv-loop μ-loop
-number-of-requires-2 c κs = search needs
-
-number-of-requires-3 : tie.Need-number-of-requires-3 Inv-loop μ-loop
-number-of-requires-3 c κs = search needs
-
-number-of-requires-4 : tie.Need-number-of-requires-4 Inv-loop μ-loop
-number-of-requires-4 c κs = search needs
+μ-loop out₀ n k i₀ out i = n - i
 
 loop-holds : tie.Need-loop-holds Inv-loop μ-loop
 loop-holds c = (zero-le, put-none _ 0 _)
@@ -34,7 +21,7 @@ loop-holds c = (zero-le, put-none _ 0 _)
 put-four-requires : tie.Need-put-four-requires Inv-loop μ-loop
 put-four-requires c κs =
     let l = c .before .before .loop in
-    let e : length (l .out) ≡ length (c .before .before .before .before .before .before .before .before .args .out .now) = ap length (l .inv .1) ∙ length-put _ 0 _ _ in
+    let e : length (l .out) ≡ length (c .before .before .before .before .args .out .now) = ap length (l .inv .1) ∙ length-put _ 0 _ _ in
     (omega arith, omega (arith, e))
 
 add-i : tie.Need-add-i Inv-loop μ-loop
@@ -44,15 +31,13 @@ loop-less : tie.Need-loop-less Inv-loop μ-loop
 loop-less c = omega arith
 
 loop-again : tie.Need-loop-again Inv-loop μ-loop
-loop-again c = let l = c .before .before .before .before .before .loop in (omega arith, c .before .before .put-four .ensures ∙ four-stores _ (l .i) _ (l .out) _ _ _ _ (l .inv .1) refl refl refl refl)
+loop-again c = let l = c .before .before .before .before .before .loop in (omega arith, c .before .before .put-four .ensures ∙ four-stores _ (l .i) _ (l .out) _ (l .inv .1) refl)
 
 same-length : tie.Need-same-length Inv-loop μ-loop
 same-length c = ap length (c .before .loop .inv .1) ∙ length-put _ _ _ _
 
 returns : tie.Need-returns Inv-loop μ-loop
-returns c =
-    let s = c .before .before .before .before .before .before .before in
-    filled-is (s .args .s) _ _ _ _ (s .args .n) _ _ (c .before .before .before .before .before .number-of .ensures) (c .before .before .before .before .number-of2 .ensures) (c .before .before .before .number-of3 .ensures) (c .before .before .number-of4 .ensures) (put-end _ _ _ _ _ _ (c .before .loop .inv .1) (omega arith) (omega arith))
+returns c = put-end _ _ _ _ _ _ (c .before .loop .inv .1) (omega arith) (omega arith)
 
 pub fill-numbers-spec : {M : Type 1} → statement M
 fill-numbers-spec =
@@ -60,10 +45,6 @@ fill-numbers-spec =
     (tie.spec
     Inv-loop
     μ-loop
-    number-of-requires
-    number-of-requires-2
-    number-of-requires-3
-    number-of-requires-4
     loop-holds
     put-four-requires
     add-i

@@ -3,6 +3,9 @@ use borrow.Author.Needs.{needs}
 use Rattle.texels_numbers.proofs.fill_texels.Statement.{statement}
 use Rattle.texels_numbers.proofs.fill_texels.Tie as tie
 
+four-of-requires : tie.Need-four-of-requires
+four-of-requires c κs = search needs
+
 fill-numbers-requires : tie.Need-fill-numbers-requires
 fill-numbers-requires c κs = search needs
 
@@ -19,12 +22,15 @@ same-length-2 : tie.Need-same-length-2
 same-length-2 c = search needs
 
 returns : tie.Need-returns
-returns c = (c .before .before .before .before .before .before .before .fill-numbers .ensures, rw (c .before .before .before .marks-of .ensures) at (c .before .before .fill-marks .ensures))
+returns c =
+    let filled = c .before .before .before .before .before .before .before in
+    (rw (filled .before .four-of .ensures) at (filled .fill-numbers .ensures), rw (c .before .before .before .marks-of .ensures) at (c .before .before .fill-marks .ensures))
 
 pub fill-texels-spec : {M : Type 1} → statement M
 fill-texels-spec =
     tie.close
     (tie.spec
+    four-of-requires
     fill-numbers-requires
     marks-of-requires
     fill-marks-requires

@@ -25,7 +25,7 @@ mul-out-4 : tie.Need-mul-out-4
 mul-out-4 c = search needs
 
 slice-write-out-2 : tie.Need-slice-write-out-2
-slice-write-out-2 c = rw (length-set (c .args .out .now) (4 * c .args .i) (c .args .r)) (omega arith)
+slice-write-out-2 c = rw (length-set (c .args .out .now) (4 * c .args .i) (c .args .k .r)) (omega arith)
 
 mul-out-5 : tie.Need-mul-out-5
 mul-out-5 c = search needs
@@ -37,7 +37,7 @@ mul-out-6 : tie.Need-mul-out-6
 mul-out-6 c = search needs
 
 slice-write-out-3 : tie.Need-slice-write-out-3
-slice-write-out-3 c = rw (length-set (set (c .args .out .now) (4 * c .args .i) (c .args .r)) (4 * c .args .i + 1) (c .args .g), length-set (c .args .out .now) (4 * c .args .i) (c .args .r)) (omega arith)
+slice-write-out-3 c = rw (length-set (set (c .args .out .now) (4 * c .args .i) (c .args .k .r)) (4 * c .args .i + 1) (c .args .k .g), length-set (c .args .out .now) (4 * c .args .i) (c .args .k .r)) (omega arith)
 
 mul-out-7 : tie.Need-mul-out-7
 mul-out-7 c = search needs

@@ -1,7 +1,7 @@
 -- `texels_numbers::put_numbers` meets its contract by its loop: before turn i the first i texels have their numbers. Assumes nothing.
 use borrow.Author.Needs.{needs}
 use Rattle.texels_numbers.specs.Numbers.{numbersFrom}
-use Rattle.texels_numbers.specs.NumberLaws.{four-stores}
+use Rattle.texels_numbers.specs.NumberLaws.{four-told, four-stores}
 use lib.ListN.{length}
 use Rattle.laws.specs.Lists.{put, put-none, put-end, length-put}
 use Prim.Native.Nat.{_*_, _-_, _≤_, zero-le}
@@ -48,9 +48,10 @@ loop-less c = omega arith
 
 loop-again : tie.Need-loop-again Inv-loop μ-loop
 loop-again c =
-    let l = c .before .before .before .before .before .before .before .before .before .before .loop in
-    let s = c .before .before .before .before .before .before .before .before .samples-at .ensures in
-    (omega arith, c .before .before .put-four .ensures ∙ four-stores _ (l .i) _ (l .out) _ _ _ _ (l .inv .1) (c .before .before .before .before .before .before .number-of .ensures ∙ rw s) (c .before .before .before .before .before .number-of2 .ensures ∙ rw s) (c .before .before .before .before .number-of3 .ensures ∙ rw s) (c .before .before .before .number-of4 .ensures ∙ rw s))
+    let last = c .before .before .before .before in
+    let l = last .before .before .before .before .before .before .loop in
+    let four = four-told _ _ (last .before .before .before .before .samples-at .ensures) (last .before .before .before .number-of .ensures) (last .before .before .number-of2 .ensures) (last .before .number-of3 .ensures) (last .number-of4 .ensures) in
+    (omega arith, c .before .before .put-four .ensures ∙ four-stores _ (l .i) _ (l .out) _ (l .inv .1) four)
 
 same-length : tie.Need-same-length Inv-loop μ-loop
 same-length c = ap length (c .before .loop .inv .1) ∙ length-put _ _ _ _

@@ -1,9 +1,9 @@
--- `texels_numbers::sample_of` meets its contract: the top bit tells a half. Assumes nothing.
+-- `texels_read::sample_of` meets its contract: the top bit tells a half. Assumes nothing.
 use native.Mathlib.Omega.{arith}
-use Rattle.texels_numbers.specs.NumberLaws.{lane-byte, lane-half}
+use Rattle.texels_read.specs.ReadLaws.{lane-byte, lane-half}
 use borrow.Author.Needs.{needs}
-use Rattle.texels_numbers.proofs.sample_of.Statement.{statement}
-use Rattle.texels_numbers.proofs.sample_of.Tie as tie
+use Rattle.texels_read.proofs.sample_of.Statement.{statement}
+use Rattle.texels_read.proofs.sample_of.Tie as tie
 
 cast-t5 : tie.Need-cast-t5
 cast-t5 c = search needs

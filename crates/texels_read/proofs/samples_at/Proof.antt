@@ -1,8 +1,8 @@
--- `texels_numbers::samples_at` meets its contract: four lanes. Assumes nothing.
-use Rattle.texels_numbers.specs.NumberLaws.{texel-is}
+-- `texels_read::samples_at` meets its contract: four lanes. Assumes nothing.
+use Rattle.texels_read.specs.ReadLaws.{texel-is}
 use borrow.Author.Needs.{needs}
-use Rattle.texels_numbers.proofs.samples_at.Statement.{statement}
-use Rattle.texels_numbers.proofs.samples_at.Tie as tie
+use Rattle.texels_read.proofs.samples_at.Statement.{statement}
+use Rattle.texels_read.proofs.samples_at.Tie as tie
 
 mul-sample-of : tie.Need-mul-sample-of
 mul-sample-of c = search needs
