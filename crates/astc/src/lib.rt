@@ -29,11 +29,7 @@ pub extern "C" fn astc_decode_block(block: &[u8], bw: usize, bh: usize, out: &mu
 pub extern "C" fn astc_block_map(block: &[u8], bw: usize, bh: usize, map: &mut [u32]) -> u32
     ensures { λ a. ⌜ (a ≡ mapAnswerIn (blockMap (now (block .entry)) (footprint bw bh)) (length (now (map .entry)))) × (now (map .exit) ≡ mapIn (blockMap (now (block .entry)) (footprint bw bh)) (now (map .entry))) ⌝ }
 {
-    let f = Footprint {
-        width: bw,
-        height: bh,
-    };
-    astc_numbers::put_map(block, f, map) as u32
+    astc_numbers::put_map(block, bw, bh, map) as u32
 }
 
 // uint32_t astc_block_channels(uint32_t options, const uint8_t *block, size_t block_len, size_t bw, size_t bh, uint32_t *channels,

@@ -3,6 +3,7 @@ ghost use mathlib.Core.Path.{_≡_};
 ghost use Prim.Native.Nat.{ℕ, _≤_};
 ghost use lib.ListN.{getD, length};
 ghost use Rattle.laws.specs.Lists.{put};
+ghost use Rattle.footprint.specs.Footprints.{footprint};
 ghost use Rattle.block_map.specs.Answer.{blockMap};
 ghost use Rattle.block_map.specs.AnswerLaws.{Small};
 ghost use Rattle.astc_numbers.specs.Numbers.{numbersOf, mapAnswerIn, mapIn, ledTo};
@@ -37,10 +38,14 @@ fn put_numbers(out: &mut [u32], n: &[u32; 9])
     }
 }
 
-// Puts the map of a block into the first nine places of `map`, and gives the answer.
-pub fn put_map(block: &[u8], f: Footprint, map: &mut [u32]) -> usize
-    ensures { λ a. ⌜ (a ≡ mapAnswerIn (blockMap (now (block .entry)) f) (length (now (map .entry)))) × (now (map .exit) ≡ mapIn (blockMap (now (block .entry)) f) (now (map .entry))) ⌝ }
+// Puts the map of a block at the footprint bw by bh into the first nine places of `map`, and gives the answer.
+pub fn put_map(block: &[u8], bw: usize, bh: usize, map: &mut [u32]) -> usize
+    ensures { λ a. ⌜ (a ≡ mapAnswerIn (blockMap (now (block .entry)) (footprint bw bh)) (length (now (map .entry)))) × (now (map .exit) ≡ mapIn (blockMap (now (block .entry)) (footprint bw bh)) (now (map .entry))) ⌝ }
 {
+    let f = Footprint {
+        width: bw,
+        height: bh,
+    };
     let m = block_map::block_map(block, f);
     if m.answer >= answers::BLOCK_LENGTH {
         return m.answer;

@@ -6,7 +6,6 @@ use Prim.Native.Nat.{ℕ, _+_, _-_, _≤_}
 use lib.ListN.{getD, length}
 use Rattle.laws.specs.Lists.{put}
 use Rattle.footprint.specs.Footprints.{footprint}
-use Rattle.footprint.specs.declared.Footprint.{Footprint}
 use Rattle.lanes.specs.Lanes.{joinedAt}
 use Rattle.block_map.specs.Answer.{answerOf, blockMap}
 use Rattle.block.specs.Block.{paintedOf}
@@ -60,8 +59,9 @@ options-refusal options = one ℕ (optionsRefusal options)
 pub places-refusal : (m : Shape) (len room places : ℕ) → Tight ℕ (λ r. r ≡ placesRefusal m len room places)
 places-refusal m len room places = one ℕ (placesRefusal m len room places)
 
-pub put-map : (s : List ℕ) (f : Footprint) (o : List ℕ) → TightBoth ℕ (List ℕ) (λ a map. (a ≡ mapAnswerIn (blockMap s f) (length o)) × (map ≡ mapIn (blockMap s f) o))
-put-map s f o = both ℕ (List ℕ) (mapAnswerIn (blockMap s f) (length o)) (mapIn (blockMap s f) o)
+pub put-map : (s : List ℕ) (bw bh : ℕ) (o : List ℕ)
+    → TightBoth ℕ (List ℕ) (λ a map. (a ≡ mapAnswerIn (blockMap s (footprint bw bh)) (length o)) × (map ≡ mapIn (blockMap s (footprint bw bh)) o))
+put-map s bw bh o = both ℕ (List ℕ) (mapAnswerIn (blockMap s (footprint bw bh)) (length o)) (mapIn (blockMap s (footprint bw bh)) o)
 
 pub put-led : (next painted bad : ℕ) (o : List ℕ) → Tight (List ℕ) (λ moved. moved ≡ put (λ (k : ℕ). getD (ledTo next painted bad) k 0) 0 3 o)
 put-led next painted bad o = one (List ℕ) (put (λ (k : ℕ). getD (ledTo next painted bad) k 0) 0 3 o)
@@ -72,7 +72,7 @@ module _ (bw bh : ℕ) where
     astc-decode-block = both ℕ (List ℕ) (answerOf s (footprint bw bh) (length o)) (paintedOf s (footprint bw bh) o)
 
     pub astc-block-map : TightBoth ℕ (List ℕ) (λ a map. (a ≡ mapAnswerIn (blockMap s (footprint bw bh)) (length o)) × (map ≡ mapIn (blockMap s (footprint bw bh)) o))
-    astc-block-map = put-map s (footprint bw bh) o
+    astc-block-map = put-map s bw bh o
 
     pub astc-block-channels : (options : ℕ) (m : List ℕ)
         → TightThree ℕ (List ℕ) (List ℕ) (λ a out floats. (a ≡ channelsAnswer options s (footprint bw bh) (length o) (length m)) × (out ≡ channelsIn options s (footprint bw bh) (length m) o) × (floats ≡ floatsIn options s (footprint bw bh) (length o) m))
