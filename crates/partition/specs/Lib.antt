@@ -1,3 +1,3 @@
 pub mod Partition
-pub mod Ramps
+pub mod Rows
 pub mod PartitionLaws

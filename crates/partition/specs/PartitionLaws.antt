@@ -1,4 +1,4 @@
--- The laws of partitions: the hash in steps, a ramp's sums in any order, and every partition below the count.
+-- The laws of partitions: the largest ramp as the code finds it, the rows of a footprint, and every partition below the count.
 -- Assumes nothing.
 use mathlib.Core.Path.{_≡_, refl, sym, ap, _∙_}
 use mathlib.Core.Bool.{Bool, true, false, cond, _&&_}
@@ -14,42 +14,15 @@ use Rattle.laws.specs.Table.{all-at}
 use Rattle.laws.specs.Numbers.{choice}
 use mathlib.Core.List.{List}
 use Rattle.laws.specs.Lists.{texels, put, putAt, put-row, put-same}
-use Rattle.partition.specs.Partition.{xorDown, xorUp, addUp, subUp, hash52, seedOf, byBit, byCount, shiftX, shiftY, factor, ramp, largest, select, scaleOf, partitionAt}
-use Rattle.partition.specs.Ramps.{Gentle, RampOf, movedTo, inRowOfTwo, inRowOfFour, rampAt, ofTwo, ofFour}
-use Rattle.partition.specs.declared.Ramp.{Ramp}
+use Rattle.partition.specs.Partition.{seedOf, largest, select, scaleOf, partitionAt}
+use Rattle.partition_ramps.specs.Ramps.{ramp}
+use Rattle.partition_ramps.specs.Held.{Gentle, rampOf, rampAt}
+use Rattle.partition_ramps.specs.RampLaws.{ramp-held}
+use Rattle.partition_ramps.specs.declared.Ramp.{Ramp}
+use Rattle.partition.specs.Rows.{movedTo, inRowOfTwo, inRowOfFour, ofTwo, ofFour}
 use Rattle.footprint.specs.Footprints.{texelsOf, mostTexels}
 use Rattle.footprint.specs.Sides.{Sides}
 use Rattle.footprint.specs.declared.Footprint.{Footprint}
-
--- ---- the hash
-pub hash-steps : (p b c d f : ℕ) → b ≡ subUp 17 (xorDown 15 p) → c ≡ addUp 7 b → d ≡ addUp 4 c → f ≡ addUp 16 (xorDown 5 d)
-    → xorDown 17 (xorUp 6 (xorDown 3 (xorDown 7 f))) ≡ hash52 p
-unfolding hash52
-hash-steps p b c d f hb hc hd hf = rw (hf, hd, hc, hb)
-
--- a machine's difference is the one over whole numbers
-pub wrapped-sub : (r a b : ℕ) → r < 2 ^ 32 → b < 2 ^ 32 → (r + b) % 2 ^ 32 ≡ a → r ≡ (a + (2 ^ 32 - b)) % 2 ^ 32
-wrapped-sub r a b h l e = omega arith
-
--- a machine's sum with an operand that was shifted up
-pub wrapped-add : (a b : ℕ) → (a + b % 2 ^ 32) % 2 ^ 32 ≡ (a + b) % 2 ^ 32
-wrapped-add a b = omega arith
-
--- ---- the factors
-small-square : ℕ → Bool
-small-square v = leb (v * v) 225
-
-pub square-le : (v : ℕ) → v < 16 → v * v ≤ 225
-unfolding small-square
-square-le v h = leb→le (v * v) 225 (all-at small-square 16 tt v h)
-
--- ---- a ramp
--- the slopes and the start may be cut to six bits and added in any order
-pub ramp-sum : (r fx fy scale s t : ℕ) → ((r % 64 + scale * fy * t) % 64 + scale * fx * s) % 64 ≡ (fx * (scale * s) + fy * (scale * t) + r) % 64
-ramp-sum r fx fy scale s t =
-    let x : scale * fx * s ≡ fx * (scale * s) = ap (λ (n : ℕ). n * s) (mul-comm scale fx) ∙ mul-assoc fx scale s in
-    let y : scale * fy * t ≡ fy * (scale * t) = ap (λ (n : ℕ). n * t) (mul-comm scale fy) ∙ mul-assoc fy scale t in
-    omega arith
 
 -- ---- the largest
 -- as the code finds it: the larger of two pairs
@@ -132,51 +105,9 @@ four-second a b c d m n p q h l = largest-second a b c d l (omega arith) (omega 
 pub four-first : (a b c d m n : ℕ) → m ≡ max a b → n ≡ max c d → n ≤ m → b ≤ a → 0 ≡ largest a b c d
 four-first a b c d m n p q h l = largest-first a b c d l (omega arith) (omega arith)
 
--- ---- the shifts
-chosen : (t : Bool) (a b l m : ℕ) → l ≤ a → a ≤ m → l ≤ b → b ≤ m → (l ≤ cond t a b) × (cond t a b ≤ m)
-chosen true a b l m p q r s = (p, q)
-chosen false a b l m p q r s = (r, s)
-
-bit-bounds : (seed : ℕ) → (4 ≤ byBit seed) × (byBit seed ≤ 6)
-bit-bounds seed = chosen (eqb (seed / 2 % 2) 1) 4 5 4 6 (omega arith) (omega arith) (omega arith) (omega arith)
-
-count-bounds : (parts : ℕ) → (4 ≤ byCount parts) × (byCount parts ≤ 6)
-count-bounds parts = chosen (eqb parts 3) 6 5 4 6 (omega arith) (omega arith) (omega arith) (omega arith)
-
-pub x-bounds : (seed parts : ℕ) → (4 ≤ shiftX seed parts) × (shiftX seed parts ≤ 6)
-unfolding shiftX
-x-bounds seed parts =
-    let p = bit-bounds seed in
-    let q = count-bounds parts in
-    chosen (eqb (seed % 2) 1) (byBit seed) (byCount parts) 4 6 (p .0) (p .1) (q .0) (q .1)
-
-pub y-bounds : (seed parts : ℕ) → (4 ≤ shiftY seed parts) × (shiftY seed parts ≤ 6)
-unfolding shiftY
-y-bounds seed parts =
-    let p = bit-bounds seed in
-    let q = count-bounds parts in
-    chosen (eqb (seed % 2) 1) (byCount parts) (byBit seed) 4 6 (q .0) (q .1) (p .0) (p .1)
-
-pub factor-le : (r at shift : ℕ) → 4 ≤ shift → factor r at shift ≤ 14
-unfolding factor
-factor-le r at shift h =
-    let v = r / 2 ^ at % 16 in
-    let s : v * v ≤ 225 = square-le v (omega arith) in
-    let m : 15 * 2 ^ 4 ≤ 15 * 2 ^ shift = mul-le-mul-left 15 (pow-mono h) in
-    let l : v * v / 2 ^ shift < 15 = div-lt-iff-lt-mul (pow-pos shift) .1 (omega arith) in
-    omega arith
-
 -- ---- a ramp's numbers stay small
 pub gentle-mul : (b n : ℕ) → b ≤ 28 → n < 12 → b * n ≤ 308
 gentle-mul b n h l = let m : n ≤ 11 = omega arith in mul-le-mul h m
-
-pub ramp-is : (seed parts i scale r fx fy : ℕ) → r ≡ hash52 seed → fx ≡ factor r (8 * i) (shiftX seed parts) → fy ≡ factor r (8 * i + 4) (shiftY seed parts)
-    → fx ≤ 14 → fy ≤ 14 → scale ≤ 2 → RampOf seed parts i scale (record { start = r / 2 ^ (14 - 4 * i) % 64; along = scale * fx; down = scale * fy })
-unfolding ramp
-ramp-is seed parts i scale r fx fy e ex ey hx hy hs = record {
-  gentle = record { start = omega arith; along = mul-le-mul hs hx; down = mul-le-mul hs hy };
-  value = λ s t. ramp-sum (r / 2 ^ (14 - 4 * i)) fx fy scale s t ∙ rw (ex, ey, e);
-}
 
 -- ---- rows
 -- a turn of the loop over the rows, from ramps that start in row y
@@ -213,9 +144,12 @@ pub flat-gentle : Gentle (record { start = 0; along = 0; down = 0 })
 flat-gentle = record { start = omega arith; along = omega arith; down = omega arith }
 
 -- the three ways out, by the number of partitions
-module _ (number parts scale : ℕ) (f : Footprint) (s u : List ℕ) (es : scale ≡ scaleOf f) where
+module _ (number parts scale : ℕ) (f : Footprint) (s u : List ℕ) (es : scale ≡ scaleOf f) (h : scale ≤ 2) where
   abbrev Ramps : ℕ → Ramp → Type 0
-  Ramps i k = RampOf (seedOf number parts) parts i scale k
+  Ramps i k = k ≡ rampOf (seedOf number parts) parts i scale
+
+  value-of : (i : ℕ) (k : Ramp) → Ramps i k → (x y : ℕ) → rampAt k x y ≡ ramp (seedOf number parts) parts i (scale * x) (scale * y)
+  value-of i k e = ramp-held (seedOf number parts) parts i scale k e h .value
 
   abbrev Put : (ℕ → ℕ) → Type 0
   Put g = u ≡ put g 0 (texelsOf f) s
@@ -224,20 +158,20 @@ module _ (number parts scale : ℕ) (f : Footprint) (s u : List ℕ) (es : scale
   unfolding ofTwo partitionAt select
   of-two a b e ra rb q =
       q ∙ put-same _ _ 0 (texelsOf f) s
-      (λ k l h. rw (lt-ltb parts 3 (omega arith), lt-ltb parts 4 (omega arith), ra .value (k % f .width) (k / f .width), rb .value (k % f .width) (k / f .width), es))
+      (λ k l g. rw (lt-ltb parts 3 (omega arith), lt-ltb parts 4 (omega arith), value-of 0 a ra (k % f .width) (k / f .width), value-of 1 b rb (k % f .width) (k / f .width), es))
 
   pub of-three : (a b c : Ramp) → parts ≡ 3 → Ramps 0 a → Ramps 1 b → Ramps 2 c → Put (texels (ofFour a b c (record { start = 0; along = 0; down = 0 })) (f .width))
       → Put (partitionAt number parts f)
   unfolding ofFour partitionAt select
   of-three a b c e ra rb rc q =
       q ∙ put-same _ _ 0 (texelsOf f) s
-      (λ k l h. rw (le-ltb parts 3 (omega arith), lt-ltb parts 4 (omega arith), ra .value (k % f .width) (k / f .width), rb .value (k % f .width) (k / f .width), rc .value (k % f .width) (k / f .width), flat-zero (k % f .width) (k / f .width), es))
+      (λ k l g. rw (le-ltb parts 3 (omega arith), lt-ltb parts 4 (omega arith), value-of 0 a ra (k % f .width) (k / f .width), value-of 1 b rb (k % f .width) (k / f .width), value-of 2 c rc (k % f .width) (k / f .width), flat-zero (k % f .width) (k / f .width), es))
 
   pub of-four : (a b c d : Ramp) → 4 ≤ parts → Ramps 0 a → Ramps 1 b → Ramps 2 c → Ramps 3 d → Put (texels (ofFour a b c d) (f .width)) → Put (partitionAt number parts f)
   unfolding ofFour partitionAt select
   of-four a b c d e ra rb rc rd q =
       q ∙ put-same _ _ 0 (texelsOf f) s
-      (λ k l h. rw (le-ltb parts 3 (omega arith), le-ltb parts 4 (omega arith), ra .value (k % f .width) (k / f .width), rb .value (k % f .width) (k / f .width), rc .value (k % f .width) (k / f .width), rd .value (k % f .width) (k / f .width), es))
+      (λ k l g. rw (le-ltb parts 3 (omega arith), le-ltb parts 4 (omega arith), value-of 0 a ra (k % f .width) (k / f .width), value-of 1 b rb (k % f .width) (k / f .width), value-of 2 c rc (k % f .width) (k / f .width), value-of 3 d rd (k % f .width) (k / f .width), es))
 
 -- a count that is neither two nor three
 pub last-count : (parts : ℕ) → 2 ≤ parts → (parts ≡ 2 → ⊥) → (parts ≡ 3 → ⊥) → 4 ≤ parts

@@ -50,6 +50,9 @@ use Rattle.weights_grid.specs.Grids.{stepOf, placed}
 use Rattle.weights_grid.specs.declared.Grid.{Grid}
 use Rattle.weights_infill.specs.Infill.{infillOf}
 use Rattle.weights.specs.Weights.{weightsOf}
+use Rattle.partition_ramps.specs.Ramps.{hash52}
+use Rattle.partition_ramps.specs.Held.{rampOf}
+use Rattle.partition_ramps.specs.declared.Ramp.{Ramp}
 use Rattle.partition.specs.Partition.{partitionAt}
 use Rattle.blend.specs.Blend.{ldrChannel, hdrHalf, hdrChannel, wordOf}
 use Rattle.channels.specs.Channels.{texelOf, marksOf, reducedBy}
@@ -278,6 +281,12 @@ pub decode-weights : (g : Grid) (q : ℕ) (seq : List ℕ) → Tight (List ℕ) 
 decode-weights g q seq = one (List ℕ) (weightsOf g q seq)
 
 -- ---- partition
+pub hash : (seed : ℕ) → Tight ℕ (λ r. r ≡ hash52 seed)
+hash seed = one ℕ (hash52 seed)
+
+pub ramp-of : (seed parts i scale : ℕ) → Tight Ramp (λ k. k ≡ rampOf seed parts i scale)
+ramp-of seed parts i scale = one Ramp (rampOf seed parts i scale)
+
 pub select-partition : (number parts : ℕ) (f : Footprint) (s : List ℕ) → Tight (List ℕ) (λ out. out ≡ put (partitionAt number parts f) 0 (texelsOf f) s)
 select-partition number parts f s = one (List ℕ) (put (partitionAt number parts f) 0 (texelsOf f) s)
 

@@ -1,6 +1,6 @@
 -- `partition::four` meets its contract: each turn fills one row more. Assumes nothing.
 use Rattle.partition.specs.PartitionLaws.{row-fits, moved-gentle, four-turn}
-use Rattle.partition.specs.Ramps.{ofFour}
+use Rattle.partition.specs.Rows.{ofFour}
 use Rattle.laws.specs.Lists.{put, texels, put-rows}
 use native.Mathlib.Nat.{lt-of-lt-of-le}
 use mathlib.Core.Path.{_≡_}

@@ -1,5 +1,5 @@
 -- `partition::row_of_four` meets its contract: each turn fills one place more. Assumes nothing.
-use Rattle.partition.specs.Ramps.{inRowOfFour}
+use Rattle.partition.specs.Rows.{inRowOfFour}
 use Rattle.laws.specs.Lists.{putAt, putAt-none, putAt-turn}
 use native.Mathlib.Nat.{lt-of-lt-of-le}
 use mathlib.Core.Path.{_≡_}

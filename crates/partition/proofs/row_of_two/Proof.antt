@@ -1,5 +1,5 @@
 -- `partition::row_of_two` meets its contract: each turn fills one place more. Assumes nothing.
-use Rattle.partition.specs.Ramps.{inRowOfTwo}
+use Rattle.partition.specs.Rows.{inRowOfTwo}
 use Rattle.laws.specs.Lists.{putAt, putAt-none, putAt-turn}
 use borrow.Author.Needs.{needs}
 use mathlib.Core.Path.{_≡_}

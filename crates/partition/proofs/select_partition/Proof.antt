@@ -1,5 +1,6 @@
 -- The ramps are those of the definition for the block's count of partitions, so the largest of them at each texel is the definition's.
 use lib.Dec.{lit<}
+use Rattle.partition_ramps.specs.RampLaws.{ramp-held}
 use Rattle.partition.specs.PartitionLaws.{of-two, of-three, of-four, flat-gentle, last-count}
 use borrow.Author.Needs.{needs}
 use Rattle.partition.proofs.select_partition.Statement.{statement}
@@ -32,15 +33,17 @@ ramp-of-requires-2 c κs = let scaled = c .before in (scaled .before .hash .ensu
 two-requires : tie.Need-two-requires
 two-requires c κs =
     let second = c .before .before in
-    (second .before .ramp-of .ensures .gentle, (second .ramp-of2 .ensures .gentle, second .before .before .before .before .pre .1 .1))
+    let scaled = second .before .before in
+    let small = scaled .scale-of .ensures .1 in
+    (ramp-held _ _ _ _ _ (second .before .ramp-of .ensures) small .gentle, (ramp-held _ _ _ _ _ (second .ramp-of2 .ensures) small .gentle, scaled .before .before .pre .1 .1))
 
 returns : tie.Need-returns
 returns c =
     let second = c .before .before .before in
     let scaled = second .before .before in
     let start = scaled .before .before in
-    of-two (start .args .number) (start .args .parts) _ (start .args .f) _ _ (scaled .scale-of .ensures .0) _ _ (c .before .before .if1 .taken) (second .before .ramp-of .ensures)
-    (second .ramp-of2 .ensures) (c .two .ensures)
+    of-two (start .args .number) (start .args .parts) _ (start .args .f) _ _ (scaled .scale-of .ensures .0) (scaled .scale-of .ensures .1) _ _ (c .before .before .if1 .taken)
+    (second .before .ramp-of .ensures) (second .ramp-of2 .ensures) (c .two .ensures)
 
 ramp-of-requires-3 : tie.Need-ramp-of-requires-3
 ramp-of-requires-3 c κs = let scaled = c .before .before .before in (scaled .before .hash .ensures, (lit< tt, scaled .scale-of .ensures .1))
@@ -49,8 +52,14 @@ four-requires : tie.Need-four-requires
 four-requires c κs =
     let third = c .before .before in
     let second = third .before .before in
-    let start = second .before .before .before .before in
-    (second .before .ramp-of .ensures .gentle, (second .ramp-of2 .ensures .gentle, (third .ramp-of3 .ensures .gentle, (flat-gentle, start .pre .1 .1))))
+    let scaled = second .before .before in
+    let small = scaled .scale-of .ensures .1 in (
+      ramp-held _ _ _ _ _ (second .before .ramp-of .ensures) small .gentle,
+      (
+        ramp-held _ _ _ _ _ (second .ramp-of2 .ensures) small .gentle,
+        (ramp-held _ _ _ _ _ (third .ramp-of3 .ensures) small .gentle, (flat-gentle, scaled .before .before .pre .1 .1)),
+      ),
+    )
 
 returns-2 : tie.Need-returns-2
 returns-2 c =
@@ -58,8 +67,8 @@ returns-2 c =
     let second = third .before .before in
     let scaled = second .before .before in
     let start = scaled .before .before in
-    of-three (start .args .number) (start .args .parts) _ (start .args .f) _ _ (scaled .scale-of .ensures .0) _ _ _ (c .before .before .if2 .taken) (second .before .ramp-of .ensures)
-    (second .ramp-of2 .ensures) (third .ramp-of3 .ensures) (c .four .ensures)
+    of-three (start .args .number) (start .args .parts) _ (start .args .f) _ _ (scaled .scale-of .ensures .0) (scaled .scale-of .ensures .1) _ _ _ (c .before .before .if2 .taken)
+    (second .before .ramp-of .ensures) (second .ramp-of2 .ensures) (third .ramp-of3 .ensures) (c .four .ensures)
 
 ramp-of-requires-4 : tie.Need-ramp-of-requires-4
 ramp-of-requires-4 c κs = let scaled = c .before .before .before .before .before in (scaled .before .hash .ensures, (lit< tt, scaled .scale-of .ensures .1))
@@ -68,8 +77,14 @@ four-requires-2 : tie.Need-four-requires-2
 four-requires-2 c κs =
     let third = c .before .before .before in
     let second = third .before .before in
-    let start = second .before .before .before .before in
-    (second .before .ramp-of .ensures .gentle, (second .ramp-of2 .ensures .gentle, (third .ramp-of3 .ensures .gentle, (c .before .ramp-of4 .ensures .gentle, start .pre .1 .1))))
+    let scaled = second .before .before in
+    let small = scaled .scale-of .ensures .1 in (
+      ramp-held _ _ _ _ _ (second .before .ramp-of .ensures) small .gentle,
+      (
+        ramp-held _ _ _ _ _ (second .ramp-of2 .ensures) small .gentle,
+        (ramp-held _ _ _ _ _ (third .ramp-of3 .ensures) small .gentle, (ramp-held _ _ _ _ _ (c .before .ramp-of4 .ensures) small .gentle, scaled .before .before .pre .1 .1)),
+      ),
+    )
 
 returns-3 : tie.Need-returns-3
 returns-3 c =
@@ -77,8 +92,9 @@ returns-3 c =
     let second = third .before .before in
     let scaled = second .before .before in
     let start = scaled .before .before in
-    of-four (start .args .number) (start .args .parts) _ (start .args .f) _ _ (scaled .scale-of .ensures .0) _ _ _ _ (last-count _ (start .pre .1 .0 .0) (third .before .if1 .left) (c .before .before .before .if2 .left))
-    (second .before .ramp-of .ensures) (second .ramp-of2 .ensures) (third .ramp-of3 .ensures) (c .before .before .ramp-of4 .ensures) (c .four2 .ensures)
+    of-four (start .args .number) (start .args .parts) _ (start .args .f) _ _ (scaled .scale-of .ensures .0) (scaled .scale-of .ensures .1) _ _ _ _
+    (last-count _ (start .pre .1 .0 .0) (third .before .if1 .left) (c .before .before .before .if2 .left)) (second .before .ramp-of .ensures) (second .ramp-of2 .ensures)
+    (third .ramp-of3 .ensures) (c .before .before .ramp-of4 .ensures) (c .four2 .ensures)
 
 pub select-partition-spec : {M : Type 1} → statement M
 select-partition-spec =

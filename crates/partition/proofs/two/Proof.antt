@@ -1,6 +1,6 @@
 -- `partition::two` meets its contract: each turn fills one row more. Assumes nothing.
 use Rattle.partition.specs.PartitionLaws.{row-fits, moved-gentle, two-turn}
-use Rattle.partition.specs.Ramps.{ofTwo}
+use Rattle.partition.specs.Rows.{ofTwo}
 use Rattle.laws.specs.Lists.{put, texels, put-rows}
 use native.Mathlib.Nat.{lt-of-lt-of-le}
 use mathlib.Core.Path.{_≡_}

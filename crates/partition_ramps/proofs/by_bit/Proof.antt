@@ -1,8 +1,8 @@
--- `partition::by_bit` meets its contract by its test. Assumes nothing.
+-- `partition_ramps::by_bit` meets its contract by its test. Assumes nothing.
 use borrow.Author.Tests.{eq-eqb, ne-eqb}
 use mathlib.Core.Path.{sym}
-use Rattle.partition.proofs.by_bit.Statement.{statement}
-use Rattle.partition.proofs.by_bit.Tie as tie
+use Rattle.partition_ramps.proofs.by_bit.Statement.{statement}
+use Rattle.partition_ramps.proofs.by_bit.Tie as tie
 
 returns : tie.Need-returns
 returns c = sym (simp (eq-eqb _ _ (c .if1 .taken)))

@@ -1,12 +1,12 @@
--- `partition::hash` meets its contract: step by step, each sum and difference of 32 bits as the one over whole numbers. Assumes nothing.
-use Rattle.partition.specs.PartitionLaws.{hash-steps, wrapped-sub, wrapped-add}
-use Rattle.partition.specs.Partition.{xorDown}
+-- `partition_ramps::hash` meets its contract: step by step, each sum and difference of 32 bits as the one over whole numbers. Assumes nothing.
+use Rattle.partition_ramps.specs.RampLaws.{hash-steps, wrapped-sub, wrapped-add}
+use Rattle.partition_ramps.specs.Ramps.{xorDown}
 use native.Mathlib.Omega.{arith}
 use Prim.Native.Nat.{ℕ, _*_, _^_, _%_}
 use mathlib.Core.Path.{_∙_}
 use borrow.Author.Needs.{needs}
-use Rattle.partition.proofs.hash.Statement.{statement}
-use Rattle.partition.proofs.hash.Tie as tie
+use Rattle.partition_ramps.proofs.hash.Statement.{statement}
+use Rattle.partition_ramps.proofs.hash.Tie as tie
 
 wrapping-sub-u32-requires : tie.Need-wrapping-sub-u32-requires
 wrapping-sub-u32-requires c κs = search needs

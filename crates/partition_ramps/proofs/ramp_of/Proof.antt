@@ -1,13 +1,13 @@
--- `partition::ramp_of` meets its contract: the slopes are the factors of the hash, doubled where the standard doubles the coordinates. Assumes nothing.
-use Rattle.partition.specs.Partition.{factor}
+-- `partition_ramps::ramp_of` meets its contract: the slopes are the factors of the hash, doubled where the standard doubles the coordinates. Assumes nothing.
+use Rattle.partition_ramps.specs.Ramps.{factor}
 use Prim.Native.Nat.{_+_, _*_}
-use Rattle.partition.specs.PartitionLaws.{x-bounds, y-bounds, ramp-is}
+use Rattle.partition_ramps.specs.RampLaws.{x-bounds, y-bounds, ramp-made}
 use native.Mathlib.Nat.{mul-le-mul}
 use mathlib.Core.Path.{ap, _∙_}
 use native.Mathlib.Omega.{arith}
 use borrow.Author.Needs.{needs}
-use Rattle.partition.proofs.ramp_of.Statement.{statement}
-use Rattle.partition.proofs.ramp_of.Tie as tie
+use Rattle.partition_ramps.proofs.ramp_of.Statement.{statement}
+use Rattle.partition_ramps.proofs.ramp_of.Tie as tie
 
 mul-t6 : tie.Need-mul-t6
 mul-t6 c = search needs
@@ -51,11 +51,9 @@ mul-t19 c = omega (arith, mul-le-mul (c .before .before .before .before .pre .1 
 returns : tie.Need-returns
 returns c =
     let a = c .before .before .before .before .args in
-    let p = c .before .before .before .before .pre in
-    ramp-is (a .seed) (a .parts) (a .i) (a .scale) (a .r) (c .before .before .slope .result) (c .slope2 .result) (p .0)
+    ramp-made (a .seed) (a .parts) (a .i) (a .scale) (a .r) _ _ (c .before .before .before .before .pre .0)
     (c .before .before .slope .ensures .0 ∙ ap (factor (a .r) (8 * a .i)) (c .before .before .before .shift-x .ensures))
     (c .slope2 .ensures .0 ∙ ap (factor (a .r) (8 * a .i + 4)) (c .before .shift-y .ensures))
-    (c .before .before .slope .ensures .1) (c .slope2 .ensures .1) (p .1 .1)
 
 pub ramp-of-spec : {M : Type 1} → statement M
 ramp-of-spec =

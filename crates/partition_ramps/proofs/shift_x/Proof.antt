@@ -1,10 +1,10 @@
--- `partition::shift_x` meets its contract by its test. Assumes nothing.
-use Rattle.partition.specs.Partition.{shiftX}
+-- `partition_ramps::shift_x` meets its contract by its test. Assumes nothing.
+use Rattle.partition_ramps.specs.Ramps.{shiftX}
 use borrow.Author.Tests.{eq-eqb, ne-eqb}
 use mathlib.Core.Path.{sym, _∙_}
 use borrow.Author.Needs.{needs}
-use Rattle.partition.proofs.shift_x.Statement.{statement}
-use Rattle.partition.proofs.shift_x.Tie as tie
+use Rattle.partition_ramps.proofs.shift_x.Statement.{statement}
+use Rattle.partition_ramps.proofs.shift_x.Tie as tie
 
 by-bit-requires : tie.Need-by-bit-requires
 by-bit-requires c κs = search needs

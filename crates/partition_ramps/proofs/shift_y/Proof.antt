@@ -1,10 +1,10 @@
--- `partition::shift_y` meets its contract by its test. Assumes nothing.
-use Rattle.partition.specs.Partition.{shiftY}
+-- `partition_ramps::shift_y` meets its contract by its test. Assumes nothing.
+use Rattle.partition_ramps.specs.Ramps.{shiftY}
 use borrow.Author.Tests.{eq-eqb, ne-eqb}
 use mathlib.Core.Path.{sym, _∙_}
 use borrow.Author.Needs.{needs}
-use Rattle.partition.proofs.shift_y.Statement.{statement}
-use Rattle.partition.proofs.shift_y.Tie as tie
+use Rattle.partition_ramps.proofs.shift_y.Statement.{statement}
+use Rattle.partition_ramps.proofs.shift_y.Tie as tie
 
 by-count-requires : tie.Need-by-count-requires
 by-count-requires c κs = search needs

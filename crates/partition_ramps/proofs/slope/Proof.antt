@@ -1,12 +1,12 @@
--- `partition::slope` meets its contract: a square of four bits, shifted by four or more, is at most 14. Assumes nothing.
-use Rattle.partition.specs.Partition.{factor}
-use Rattle.partition.specs.PartitionLaws.{square-le, factor-le}
+-- `partition_ramps::slope` meets its contract: a square of four bits, shifted by four or more, is at most 14. Assumes nothing.
+use Rattle.partition_ramps.specs.Ramps.{factor}
+use Rattle.partition_ramps.specs.RampLaws.{square-le, factor-le}
 use mathlib.Core.Path.{refl}
 use Prim.Native.Nat.{_/_, _%_, _^_}
 use native.Mathlib.Omega.{arith}
 use borrow.Author.Needs.{needs}
-use Rattle.partition.proofs.slope.Statement.{statement}
-use Rattle.partition.proofs.slope.Tie as tie
+use Rattle.partition_ramps.proofs.slope.Statement.{statement}
+use Rattle.partition_ramps.proofs.slope.Tie as tie
 
 shr-v : tie.Need-shr-v
 shr-v c = search needs

@@ -1,0 +1,3 @@
+pub mod Ramps
+pub mod Held
+pub mod RampLaws
