@@ -26,7 +26,7 @@ pub fn count_differences(words: &[u32], whole: &[u32], n: usize) -> usize
     let mut found = 0;
     let mut k = 0;
     while k < words.len() {
-        found += program_text::one_if(words[k] != expected(whole, n, k));
+        found += program_counts::one_if(words[k] != expected(whole, n, k));
         k += 1;
     }
     found

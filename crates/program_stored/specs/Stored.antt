@@ -9,7 +9,7 @@ use lib.ListN.{getD, set, replicate}
 use Rattle.laws.specs.Lists.{put}
 use Rattle.footprint.specs.Footprints.{mostTexels}
 use Rattle.program_compare.specs.Compare.{differences}
-use Rattle.program_text.specs.Counts.{more}
+use Rattle.program_counts.specs.Counts.{more}
 use Rattle.program_stored.specs.declared.Tally.{Tally}
 
 -- the stored word of texel k

@@ -80,7 +80,7 @@ pub fn closed(t: Tally, malformed: bool) -> Tally
         blocks: t.blocks,
         words: t.words,
         different: t.different,
-        malformed: program_text::added(t.malformed, program_text::one_if(malformed)),
+        malformed: program_counts::added(t.malformed, program_counts::one_if(malformed)),
     }
 }
 
@@ -90,9 +90,9 @@ fn counted(t: Tally, words: usize, different: bool) -> Tally
 {
     Tally {
         running: true,
-        blocks: program_text::added(t.blocks, 1),
-        words: program_text::added(t.words, words),
-        different: program_text::added(t.different, program_text::one_if(different)),
+        blocks: program_counts::added(t.blocks, 1),
+        words: program_counts::added(t.words, words),
+        different: program_counts::added(t.different, program_counts::one_if(different)),
         malformed: t.malformed,
     }
 }
@@ -109,6 +109,6 @@ pub fn count_record(
     ensures { λ r. ⌜ (r ≡ recordIn t (now (head .entry)) (now (stored .entry)) answer (now (words .entry))) × (now (answers .exit) ≡ answerIn (now (answers .entry)) (now (head .entry))) ⌝ }
 {
     let stored_answer = wide(head[2]);
-    answers[stored_answer] = program_text::added(answers[stored_answer], 1);
+    answers[stored_answer] = program_counts::added(answers[stored_answer], 1);
     counted(t, texels(head), differs(head, stored, answer, words))
 }

@@ -173,10 +173,10 @@ fn walked(w: Walk, data: &[u8], blocks: usize, out: &mut [u32]) -> Walk {
     Walk {
         moving: cursor.next != before.next,
         cursor,
-        steps: program_text::added(w.steps, 1),
-        painted: program_text::added(w.painted, step.painted),
-        bad: program_text::added(w.bad, step.bad),
-        refused: program_text::added(w.refused, program_text::one_if(step.answer != 0)),
+        steps: program_counts::added(w.steps, 1),
+        painted: program_counts::added(w.painted, step.painted),
+        bad: program_counts::added(w.bad, step.bad),
+        refused: program_counts::added(w.refused, program_counts::one_if(step.answer != 0)),
     }
 }
 
@@ -231,27 +231,27 @@ pub struct Tally {
 fn with_run(t: Tally, w: Walk, different: bool) -> Tally {
     Tally {
         images: t.images,
-        runs: program_text::added(t.runs, 1),
-        steps: program_text::added(t.steps, w.steps),
-        painted: program_text::added(t.painted, w.painted),
-        bad: program_text::added(t.bad, w.bad),
-        words: program_text::added(t.words, 1280),
-        different: program_text::added(t.different, program_text::one_if(different)),
+        runs: program_counts::added(t.runs, 1),
+        steps: program_counts::added(t.steps, w.steps),
+        painted: program_counts::added(t.painted, w.painted),
+        bad: program_counts::added(t.bad, w.bad),
+        words: program_counts::added(t.words, 1280),
+        different: program_counts::added(t.different, program_counts::one_if(different)),
     }
 }
 
 // The tally with an image painted whole. One that was refused, or changed words after its own, counts as a run that differs.
 fn with_image(t: Tally, answer: usize, stray: usize) -> Tally {
     Tally {
-        images: program_text::added(t.images, 1),
+        images: program_counts::added(t.images, 1),
         runs: t.runs,
         steps: t.steps,
         painted: t.painted,
         bad: t.bad,
         words: t.words,
-        different: program_text::added(
+        different: program_counts::added(
             t.different,
-            program_text::one_if(program_text::added(answer, stray) != 0),
+            program_counts::one_if(program_counts::added(answer, stray) != 0),
         ),
     }
 }
@@ -285,7 +285,7 @@ fn count_bad(data: &[u8], f: Footprint) -> usize {
     while b < data.len() / 16 {
         let start = 16 * b;
         let end = start + 16;
-        found = program_text::added(found, program_text::one_if(is_bad(&data[start..end], f)));
+        found = program_counts::added(found, program_counts::one_if(is_bad(&data[start..end], f)));
         b += 1;
     }
     found

@@ -1,28 +1,9 @@
-// Counts, and a line of text that is laid out piece by piece: bytes, and numbers in decimal.
+// A line of text that is laid out piece by piece: bytes, and numbers in decimal.
 use libc::STDOUT_FILENO;
 ghost use mathlib.Core.Path.{_≡_};
-ghost use mathlib.Core.Bool.{cond};
 ghost use Prim.Native.Nat.{_+_, _≤_};
 ghost use lib.ListN.{length};
-ghost use Rattle.program_text.specs.Counts.{more};
 ghost use Rattle.program_text.specs.Text.{decimal, countLine, Placed};
-
-// A count with n more. It would stay at the largest number, which no run reaches.
-pub fn added(count: usize, n: usize) -> usize
-    ensures { λ r. ⌜ r ≡ more count n ⌝ }
-{
-    if usize::MAX - n < count {
-        return usize::MAX;
-    }
-    count + n
-}
-
-// What a test adds to a count of the tests that hold.
-pub fn one_if(holds: bool) -> usize
-    ensures { λ r. ⌜ (r ≡ cond holds 1 0) × (r ≤ 1) ⌝ }
-{
-    if holds { 1 } else { 0 }
-}
 
 // Puts a text into the line at a place, and gives the place after it.
 pub fn put_text(line: &mut [u8], at: usize, text: &[u8]) -> usize
