@@ -1,21 +1,19 @@
 -- How large the answer of a block and the numbers of its map are, and the ways out of the map.
 -- Assumes nothing.
 use mathlib.Core.Path.{_≡_, refl, sym, ap, _∙_}
-use mathlib.Core.Bool.{Bool, true, false, cond, not}
+use mathlib.Core.Bool.{Bool, true, false, cond}
 use mathlib.Core.List.{List}
 use Prim.Native.Nat.{ℕ, _≤_, _<_}
-use native.Mathlib.Nat.{suc-ne-zero}
 use native.Mathlib.Omega.{arith}
-use lib.Dec.{eqb, leb, ltb, leb→le}
+use lib.Dec.{eqb, leb, leb→le}
 use lib.ListN.{length}
-use borrow.Author.Tests.{eq-eqb, ne-eqb, eqb-true, eqb-false, le-ltb}
+use borrow.Author.Tests.{ne-eqb, eqb-true, eqb-false}
 use Rattle.laws.specs.Numbers.{choice}
 use Rattle.laws.specs.Table.{all-at}
 use Rattle.bits.specs.Bits.{bytes}
 use Rattle.sequence_ranges.specs.Ranges.{tops, topOf}
 use Rattle.footprint.specs.Footprints.{texelsOf, listed}
 use Rattle.footprint.specs.declared.Footprint.{Footprint}
-use Rattle.params_config.specs.Config.{configOf}
 use Rattle.params_rules.specs.Fields.{fieldsOf, answer}
 use Rattle.params_rules.specs.FieldLaws.{ordinary, answer-lt}
 use Rattle.params_room.specs.RoomLaws.{range-is}

@@ -1,16 +1,14 @@
 -- The laws of partitions: the largest ramp as the code finds it, the rows of a footprint, and every partition below the count.
 -- Assumes nothing.
-use mathlib.Core.Path.{_≡_, refl, sym, ap, _∙_}
+use mathlib.Core.Path.{_≡_, refl, sym, _∙_}
 use mathlib.Core.Bool.{Bool, true, false, cond, _&&_}
 use mathlib.Core.Logic.{_⊎_, inl, inr}
-use Prim.Native.Nat.{ℕ, _+_, _-_, _*_, _/_, _%_, _^_, _≤_, _<_, max}
-use native.Mathlib.Nat.{mul-comm, mul-assoc, mul-le-mul, mul-le-mul-left, mul-add, mul-one, zero-mul, div-lt-iff-lt-mul}
-use lib.Pow.{pow-mono, pow-pos}
+use Prim.Native.Nat.{ℕ, _+_, _-_, _*_, _/_, _%_, _≤_, _<_, max}
+use native.Mathlib.Nat.{mul-le-mul, mul-add, mul-one, zero-mul}
 use native.Mathlib.Omega.{arith}
 use native.Mathlib.Decide.{decLt}
-use lib.Dec.{eqb, leb, ltb, leb→le}
+use lib.Dec.{leb, ltb}
 use borrow.Author.Tests.{leb-true, le-leb, lt-leb, lt-ltb, le-ltb}
-use Rattle.laws.specs.Table.{all-at}
 use Rattle.laws.specs.Numbers.{choice}
 use mathlib.Core.List.{List}
 use Rattle.laws.specs.Lists.{texels, put, putAt, put-row, put-same}

@@ -8,10 +8,10 @@ use Prim.Native.Nat.{ℕ, _≤_, _<_}
 use native.Mathlib.Omega.{arith}
 use lib.Dec.{eqb}
 use lib.ListN.{length}
-use borrow.Author.Tests.{eq-eqb, ne-eqb, lt-ltb, le-ltb}
+use borrow.Author.Tests.{eq-eqb, ne-eqb, lt-ltb}
 use Rattle.laws.specs.Lists.{put, put-same}
 use Rattle.bits.specs.Bits.{bitsAt, bytes}
-use Rattle.footprint.specs.Footprints.{texelsOf, listed}
+use Rattle.footprint.specs.Footprints.{texelsOf}
 use Rattle.footprint.specs.declared.Footprint.{Footprint}
 use Rattle.params_low.specs.Low.{isVoid, lowOf}
 use Rattle.params_low.specs.LowLaws.{low-bits-are}
