@@ -86,8 +86,8 @@ fn put_four(out: &mut [u32], i: usize, k: Four)
     out[4 * i + 3] = k.a;
 }
 
-// Puts the numbers of n texels, from the lanes of a block. They are worked out in the loop and not by `four_of`, so that the compiler still knows
-// of a half that it is finite.
+// Puts the numbers of n texels, from the lanes of a block. They are worked out in the loop and not by `four_of`, which
+// makes HDR blocks slower.
 fn put_numbers(out: &mut [u32], n: usize, lanes: &[u16; LANES])
     requires { ⌜ (n ≤ mostTexels) × (4 * n ≤ length (now out)) ⌝ }
     ensures { λ _. ⌜ now (out .exit) ≡ put (numbersFrom (now (lanes .entry))) 0 (4 * n) (now (out .entry)) ⌝ }

@@ -1,12 +1,13 @@
 -- `block_refusal::first_refusal` meets its contract: each way out is a law of RefusalLaws. Assumes nothing.
 use Rattle.block_refusal.specs.RefusalLaws.{first-20, first-21, first-0}
 use mathlib.Core.Path.{sym, _∙_}
+use native.Mathlib.Omega.{arith}
 use borrow.Author.Needs.{needs}
 use Rattle.block_refusal.proofs.first_refusal.Statement.{statement}
 use Rattle.block_refusal.proofs.first_refusal.Tie as tie
 
 returns : tie.Need-returns
-returns c = first-20 _ _ (c .if1 .taken)
+returns c = first-20 _ _ (λ e. omega (arith, e, c .if1 .taken))
 
 is-listed-requires : tie.Need-is-listed-requires
 is-listed-requires c κs = search needs
