@@ -11,7 +11,7 @@ use Rattle.params_map.specs.declared.BlockMap.{BlockMap}
 
 -- the largest endpoint value; start and length of low configuration, endpoints, extra and weights
 unfoldable pub numbersOf : BlockMap → List ℕ
-numbersOf m = m .top ∷ m .lowat ∷ m .lowlen ∷ m .endat ∷ m .endlen ∷ m .extraat ∷ m .extralen ∷ m .weightat ∷ m .weightlen ∷ []
+numbersOf m = m .top ∷ m .«low_at» ∷ m .«low_len» ∷ m .«end_at» ∷ m .«end_len» ∷ m .«extra_at» ∷ m .«extra_len» ∷ m .«weight_at» ∷ m .«weight_len» ∷ []
 
 -- fewer than nine places are 22, after the map's own refusals and before the block's answer
 unfoldable pub mapAnswerIn : BlockMap → ℕ → ℕ

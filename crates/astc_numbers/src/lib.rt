@@ -5,25 +5,25 @@ ghost use lib.ListN.{getD, length};
 ghost use Rattle.laws.specs.Lists.{put};
 ghost use Rattle.footprint.specs.Footprints.{footprint};
 ghost use Rattle.block_map.specs.Answer.{blockMap};
-ghost use Rattle.block_map.specs.AnswerLaws.{Small};
+ghost use Rattle.block_map.specs.AnswerLaws.{MapBounds};
 ghost use Rattle.astc_numbers.specs.Numbers.{numbersOf, mapAnswerIn, mapIn, ledTo};
 use footprint::Footprint;
 use params_map::BlockMap;
 
 fn numbers_of(m: BlockMap) -> [u32; 9]
-    requires { ⌜ Small m ⌝ }
+    requires { ⌜ MapBounds m ⌝ }
     ensures { λ r. ⌜ r ≡ numbersOf m ⌝ }
 {
     [
         m.top as u32,
-        m.lowat as u32,
-        m.lowlen as u32,
-        m.endat as u32,
-        m.endlen as u32,
-        m.extraat as u32,
-        m.extralen as u32,
-        m.weightat as u32,
-        m.weightlen as u32,
+        m.low_at as u32,
+        m.low_len as u32,
+        m.end_at as u32,
+        m.end_len as u32,
+        m.extra_at as u32,
+        m.extra_len as u32,
+        m.weight_at as u32,
+        m.weight_len as u32,
     ]
 }
 

@@ -17,42 +17,42 @@ pub fn reversal() -> [u8; 256]
     BIT_REVERSE_TABLE
 }
 
-fn wide(x: u8) -> u64
+fn u64_of(x: u8) -> u64
     ensures { λ r. ⌜ (r ≡ x) × (r < 256) ⌝ }
 {
     x as u64
 }
 
 // The byte of x that starts at a bit, with its bits in the other order.
-fn reverse8(t: &[u8; 256], x: u64, at: usize) -> u64
-    requires { ⌜ (now t ≡ reversals) × (at < 64) ⌝ }
+fn reverse8(reversal: &[u8; 256], x: u64, at: usize) -> u64
+    requires { ⌜ (now reversal ≡ reversals) × (at < 64) ⌝ }
     ensures { λ r. ⌜ (r ≡ reversed 8 (x / 2 ^ at)) × (r < 256) ⌝ }
 {
-    wide(t[((x >> at) % 256) as usize])
+    u64_of(reversal[((x >> at) % 256) as usize])
 }
 
 // A word with its bits in the other order.
-pub fn bit_reverse_u64(t: &[u8; 256], x: u64) -> u64
-    requires { ⌜ now t ≡ reversals ⌝ }
+pub fn bit_reverse_u64(reversal: &[u8; 256], x: u64) -> u64
+    requires { ⌜ now reversal ≡ reversals ⌝ }
     ensures { λ r. ⌜ r ≡ reversed 64 x ⌝ }
 {
-    reverse8(t, x, 56)
-        + 0x100 * reverse8(t, x, 48)
-        + 0x1_0000 * reverse8(t, x, 40)
-        + 0x100_0000 * reverse8(t, x, 32)
-        + 0x1_0000_0000 * reverse8(t, x, 24)
-        + 0x100_0000_0000 * reverse8(t, x, 16)
-        + 0x1_0000_0000_0000 * reverse8(t, x, 8)
-        + 0x100_0000_0000_0000 * reverse8(t, x, 0)
+    reverse8(reversal, x, 56)
+        + 0x100 * reverse8(reversal, x, 48)
+        + 0x1_0000 * reverse8(reversal, x, 40)
+        + 0x100_0000 * reverse8(reversal, x, 32)
+        + 0x1_0000_0000 * reverse8(reversal, x, 24)
+        + 0x100_0000_0000 * reverse8(reversal, x, 16)
+        + 0x1_0000_0000_0000 * reverse8(reversal, x, 8)
+        + 0x100_0000_0000_0000 * reverse8(reversal, x, 0)
 }
 
 // The block with its bits in the other order.
-pub fn reverse(t: &[u8; 256], b: Block) -> Block
-    requires { ⌜ now t ≡ reversals ⌝ }
+pub fn reverse(reversal: &[u8; 256], b: Block) -> Block
+    requires { ⌜ now reversal ≡ reversals ⌝ }
     ensures { λ r. ⌜ valueOf r ≡ reversed 128 (valueOf b) ⌝ }
 {
     Block {
-        lo: bit_reverse_u64(t, b.hi),
-        hi: bit_reverse_u64(t, b.lo),
+        lo: bit_reverse_u64(reversal, b.hi),
+        hi: bit_reverse_u64(reversal, b.lo),
     }
 }

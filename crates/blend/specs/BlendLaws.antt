@@ -36,12 +36,12 @@ shares-most e0 e1 w h =
     omega arith
 
 -- a number c lies between a and b
-pub record Within (a b c : ℕ) : Type 0 where
+pub record Between (a b c : ℕ) : Type 0 where
   pub least : min a b ≤ c
   pub most : c ≤ max a b
 
 -- what is blended lies between its two ends
-pub between-within : (x0 x1 w : ℕ) → w ≤ 64 → Within x0 x1 (between x0 x1 w)
+pub between-within : (x0 x1 w : ℕ) → w ≤ 64 → Between x0 x1 (between x0 x1 w)
 unfolding between
 between-within x0 x1 w h =
     let a : 64 * min x0 x1 ≤ shares x0 x1 w = shares-least x0 x1 w h in
@@ -61,10 +61,10 @@ abbrev pub Rising : ℕ → (ℕ → ℕ) → Type 0
 Rising n f = (x y : ℕ) → x ≤ y → y ≤ n → f x ≤ f y
 
 -- it takes what lies between two numbers to what lies between their values
-pub within-rising : (n : ℕ) (f : ℕ → ℕ) → Rising n f → (a b c : ℕ) → a ≤ n → b ≤ n → Within a b c → Within (f a) (f b) (f c)
+pub within-rising : (n : ℕ) (f : ℕ → ℕ) → Rising n f → (a b c : ℕ) → a ≤ n → b ≤ n → Between a b c → Between (f a) (f b) (f c)
 within-rising n f up a b c h l w = go (decLt a b)
   where
-    go : Dec (a < b) → Within (f a) (f b) (f c)
+    go : Dec (a < b) → Between (f a) (f b) (f c)
     go (yes p) =
         let low : f a ≤ f c = up a c (omega (arith, w .least)) (omega (arith, w .most)) in
         let high : f c ≤ f b = up c b (omega (arith, w .most)) l in
@@ -107,7 +107,7 @@ crate-expand e h =
     rw (expand-byte e h, s) (byte-of e h)
 
 -- so an LDR channel lies between its endpoints
-pub ldr-within : (e0 e1 w : ℕ) → e0 ≤ 255 → e1 ≤ 255 → w ≤ 64 → Within e0 e1 (ldrChannel e0 e1 w)
+pub ldr-within : (e0 e1 w : ℕ) → e0 ≤ 255 → e1 ≤ 255 → w ≤ 64 → Between e0 e1 (ldrChannel e0 e1 w)
 ldr-within e0 e1 w h l k =
     let a : expand e0 ≤ 65535 = rw (expand-byte e0 h) (omega arith) in
     let b : expand e1 ≤ 65535 = rw (expand-byte e1 l) (omega arith) in

@@ -3,7 +3,7 @@ ghost use mathlib.Core.Path.{_≡_};
 ghost use Prim.Native.Nat.{_-_, _≤_, _<_};
 ghost use Rattle.blend.specs.Blend.{expand, halfOf, ldrChannel, hdrHalf, hdrChannel, wordOf};
 
-fn wide(x: u8) -> u32
+fn u32_of(x: u8) -> u32
     ensures { λ r. ⌜ r ≡ x ⌝ }
 {
     x as u32
@@ -13,7 +13,7 @@ fn wide(x: u8) -> u32
 pub fn color(r: u8, g: u8, b: u8, a: u8) -> u32
     ensures { λ w. ⌜ w ≡ wordOf r g b a ⌝ }
 {
-    wide(b) + 0x100 * wide(g) + 0x1_0000 * wide(r) + 0x100_0000 * wide(a)
+    u32_of(b) + 0x100 * u32_of(g) + 0x1_0000 * u32_of(r) + 0x100_0000 * u32_of(a)
 }
 
 // An endpoint in 16 bits: 257 times a byte.

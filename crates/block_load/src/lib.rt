@@ -6,7 +6,7 @@ ghost use Rattle.bits.specs.Bits.{bytes};
 ghost use Rattle.bits.specs.Blocks.{valueOf};
 use bits::Block;
 
-fn wide(x: u8) -> u64
+fn u64_of(x: u8) -> u64
     ensures { λ r. ⌜ (r ≡ x) × (r < 256) ⌝ }
 {
     x as u64
@@ -16,14 +16,14 @@ fn wide(x: u8) -> u64
 fn word(a: u8, b: u8, c: u8, d: u8, e: u8, f: u8, g: u8, h: u8) -> u64
     ensures { λ r. ⌜ r ≡ a + 0x100 * b + 0x1_0000 * c + 0x100_0000 * d + 0x1_0000_0000 * e + 0x100_0000_0000 * f + 0x1_0000_0000_0000 * g + 0x100_0000_0000_0000 * h ⌝ }
 {
-    wide(a)
-        + 0x100 * wide(b)
-        + 0x1_0000 * wide(c)
-        + 0x100_0000 * wide(d)
-        + 0x1_0000_0000 * wide(e)
-        + 0x100_0000_0000 * wide(f)
-        + 0x1_0000_0000_0000 * wide(g)
-        + 0x100_0000_0000_0000 * wide(h)
+    u64_of(a)
+        + 0x100 * u64_of(b)
+        + 0x1_0000 * u64_of(c)
+        + 0x100_0000 * u64_of(d)
+        + 0x1_0000_0000 * u64_of(e)
+        + 0x100_0000_0000 * u64_of(f)
+        + 0x1_0000_0000_0000 * u64_of(g)
+        + 0x100_0000_0000_0000 * u64_of(h)
 }
 
 // The block that 16 bytes are.

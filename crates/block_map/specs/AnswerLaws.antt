@@ -116,17 +116,17 @@ legal-map s foot h = go (eqb (blockRefusal (length s) foot (texelsOf foot)) 0) r
         absurd (n (sym (answer-refused s foot (texelsOf foot) _ refl n) ∙ z))
 
 -- ---- how large its numbers are
-pub record Small (m : BlockMap) : Type 0 where
+pub record MapBounds (m : BlockMap) : Type 0 where
   pub answer : m .answer < 23
   pub top : m .top ≤ 255
-  pub lowat : m .lowat ≤ 128
-  pub lowlen : m .lowlen ≤ 128
-  pub endat : m .endat ≤ 128
-  pub endlen : m .endlen ≤ 128
-  pub extraat : m .extraat ≤ 128
-  pub extralen : m .extralen ≤ 128
-  pub weightat : m .weightat ≤ 128
-  pub weightlen : m .weightlen ≤ 128
+  pub «low_at» : m .«low_at» ≤ 128
+  pub «low_len» : m .«low_len» ≤ 128
+  pub «end_at» : m .«end_at» ≤ 128
+  pub «end_len» : m .«end_len» ≤ 128
+  pub «extra_at» : m .«extra_at» ≤ 128
+  pub «extra_len» : m .«extra_len» ≤ 128
+  pub «weight_at» : m .«weight_at» ≤ 128
+  pub «weight_len» : m .«weight_len» ≤ 128
 
 topTest : ℕ → Bool
 unfolding tops topOf
@@ -142,43 +142,43 @@ map-top v foot e =
     let w = range-is _ foot (ordinary (fieldsOf v) foot e .rules) in
     rw (map-legal (fieldsOf v) foot e) (top-most _ (w .most))
 
-order-small : (m : BlockMap) → m .answer < 23 → m .top ≤ 255 → InOrder m → Small m
+order-small : (m : BlockMap) → m .answer < 23 → m .top ≤ 255 → InOrder m → MapBounds m
 order-small m h t o = record {
   answer = h;
   top = t;
-  lowat = omega (arith, o .first);
-  lowlen = omega (arith, o .ends, o .extra, o .weights, o .last);
-  endat = omega (arith, o .extra, o .weights, o .last);
-  endlen = omega (arith, o .extra, o .weights, o .last);
-  extraat = omega (arith, o .weights, o .last);
-  extralen = omega (arith, o .weights, o .last);
-  weightat = omega (arith, o .last);
-  weightlen = omega (arith, o .last);
+  «low_at» = omega (arith, o .first);
+  «low_len» = omega (arith, o .ends, o .extra, o .weights, o .last);
+  «end_at» = omega (arith, o .extra, o .weights, o .last);
+  «end_len» = omega (arith, o .extra, o .weights, o .last);
+  «extra_at» = omega (arith, o .weights, o .last);
+  «extra_len» = omega (arith, o .weights, o .last);
+  «weight_at» = omega (arith, o .last);
+  «weight_len» = omega (arith, o .last);
 }
 
-none-small : (a : ℕ) → a < 23 → Small (noMap a)
+none-small : (a : ℕ) → a < 23 → MapBounds (noMap a)
 unfolding noMap
 none-small a h = record {
   answer = h;
   top = omega arith;
-  lowat = omega arith;
-  lowlen = omega arith;
-  endat = omega arith;
-  endlen = omega arith;
-  extraat = omega arith;
-  extralen = omega arith;
-  weightat = omega arith;
-  weightlen = omega arith;
+  «low_at» = omega arith;
+  «low_len» = omega arith;
+  «end_at» = omega arith;
+  «end_len» = omega arith;
+  «extra_at» = omega arith;
+  «extra_len» = omega arith;
+  «weight_at» = omega arith;
+  «weight_len» = omega arith;
 }
 
-other-small : (s : List ℕ) (foot : Footprint) → eqb (mapAnswer s foot) 0 ≡ false → Small (blockMap s foot)
+other-small : (s : List ℕ) (foot : Footprint) → eqb (mapAnswer s foot) 0 ≡ false → MapBounds (blockMap s foot)
 unfolding blockMap
 other-small s foot e = rw e (none-small (mapAnswer s foot) (map-answer-lt s foot))
 
-pub map-small : (s : List ℕ) (foot : Footprint) → Small (blockMap s foot)
+pub map-small : (s : List ℕ) (foot : Footprint) → MapBounds (blockMap s foot)
 map-small s foot = go (eqb (blockMap s foot .answer) 0) refl
   where
-    go : (t : Bool) → eqb (blockMap s foot .answer) 0 ≡ t → Small (blockMap s foot)
+    go : (t : Bool) → eqb (blockMap s foot .answer) 0 ≡ t → MapBounds (blockMap s foot)
     go true e =
         let l = legal-map s foot (eqb-true _ 0 e) in
         let z : mapOf (bytes 16 s) foot .answer ≡ 0 = answer-mapped (fieldsOf (bytes 16 s)) foot ∙ l .answer in

@@ -37,19 +37,19 @@ count-is parts base code (suc n) m h =
 pub record Facts (p : Params) : Type 0 where
   pub width : p .config .width ≤ 12
   pub height : p .config .height ≤ 12
-  pub weight-range : p .config .range < 12
-  pub least : 4 ≤ p .range
-  pub most : p .range < 21
+  pub weight-range : p .config .«weight_range» < 12
+  pub least : 4 ≤ p .«endpoint_range»
+  pub most : p .«endpoint_range» < 21
   pub values : p .config .values ≤ 18
-  pub low : p .config .lowlen ≤ 128
+  pub low : p .config .«low_len» ≤ 128
   pub part : 1 ≤ p .config .parts
   pub parts : p .config .parts ≤ 4
   pub planes : (1 ≤ p .config .planes) × (p .config .planes ≤ 2)
   pub modes : (i : ℕ) → getD (p .modes) i 0 < 16
   pub count : countTo (p .modes) (p .config .parts) ≡ p .config .values
   pub number : p .config .number < 1024
-  pub ends-len : cost (p .range) (p .config .values) ≡ totalOf (rangeOf (p .range)) (p .config .values)
-  pub weights-len : p .config .weightlen ≡ totalOf (rangeOf (p .config .range)) (countOf p)
+  pub ends-len : cost (p .«endpoint_range») (p .config .values) ≡ totalOf (rangeOf (p .«endpoint_range»)) (p .config .values)
+  pub weights-len : p .config .«weight_len» ≡ totalOf (rangeOf (p .config .«weight_range»)) (countOf p)
 
 -- and what its grid is at a footprint
 pub record Ready (p : Params) (foot : Footprint) : Type 0 where
@@ -72,11 +72,11 @@ ready p v foot e z s =
       facts = record {
         width = k .width;
         height = k .height;
-        weight-range = omega (arith, k .range);
+        weight-range = omega (arith, k .weight-range);
         least = w .least;
         most = omega (arith, w .most);
         values = l .values;
-        low = omega (arith, k .lowlen);
+        low = omega (arith, k .«low_len»);
         part = k .part;
         parts = k .parts;
         planes = (k .plane, k .planes);

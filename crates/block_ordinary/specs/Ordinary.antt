@@ -30,7 +30,7 @@ use Rattle.texels.specs.Samples.{texelLane, samplesIn}
 -- ---- a legal block, of its parameters p and two more fields
 -- the endpoints of its partitions, from the endpoint field
 unfoldable pub endsOf : Params → ℕ → List Endpoints
-endsOf p field = endpointsList (p .config .parts) (p .modes) (endpointValues (p .range) (valuesOf (rangeOf (p .range)) field (p .config .values)))
+endsOf p field = endpointsList (p .config .parts) (p .modes) (endpointValues (p .«endpoint_range») (valuesOf (rangeOf (p .«endpoint_range»)) field (p .config .values)))
 
 abbrev pub gridOf : Params → Footprint → Grid
 gridOf p foot = record { footprint = foot; width = p .config .width; height = p .config .height; planes = p .config .planes }
@@ -40,7 +40,7 @@ countOf p = p .config .width * p .config .height * p .config .planes
 
 -- the weights of its texels, from the weight field, which is read from its top bit downwards
 unfoldable pub weightsIn : Params → Footprint → ℕ → List ℕ
-weightsIn p foot field = weightsOf (gridOf p foot) (p .config .range) (valuesOf (rangeOf (p .config .range)) field (countOf p))
+weightsIn p foot field = weightsOf (gridOf p foot) (p .config .«weight_range») (valuesOf (rangeOf (p .config .«weight_range»)) field (countOf p))
 
 -- the partition of each of its texels: the first where there is one alone
 unfoldable pub partitionsIn : Params → Footprint → List ℕ

@@ -32,13 +32,13 @@ use Rattle.endpoints.specs.Endpoints.{endpointsList}
 use Rattle.endpoints.specs.Bounds.{partition-within}
 use Rattle.endpoints_colours.specs.declared.Endpoints.{Endpoints}
 use Rattle.endpoints_colours.specs.Colours.{nothing}
-use Rattle.endpoints_colours.specs.Bounds.{Within}
-use Rattle.weights.specs.Given.{Given}
+use Rattle.endpoints_colours.specs.Bounds.{InLimits}
+use Rattle.weights.specs.WeightsGiven.{WeightsGiven}
 use Rattle.weights.specs.Bounds.{weights-le}
 use Rattle.weights.specs.Weights.{weightsOf}
 use Rattle.partition.specs.Partition.{partitionAt}
 use Rattle.partition.specs.PartitionLaws.{partition-below}
-use Rattle.texels.specs.Given.{Given as PaintGiven}
+use Rattle.texels.specs.PaintGiven.{PaintGiven}
 use Rattle.texels.specs.Texels.{texelWord}
 use Rattle.texels.specs.Samples.{texelLane, samplesIn}
 use Rattle.block_ordinary.specs.Ordinary.{endsOf, gridOf, countOf, weightsIn, partitionsIn, ordinaryWord, ordinaryLane, formOf, lanesIn}
@@ -56,23 +56,23 @@ past w n r seq d i h = rw d (values-past r w n i h)
 
 module _ (p : Params) (v : ℕ) (f : Facts p) (r : Range) (seq : List ℕ) where
   -- ---- the endpoints
-  pub ends-is : (ev : List ℕ) (e : List Endpoints) → r ≡ rangeOf (p .range) → seq ≡ valuesOf r (bitsAt v (p .config .lowlen) (totalOf r (p .config .values))) (p .config .values)
-      → ev ≡ endpointValues (p .range) seq → e ≡ endpointsList (p .config .parts) (p .modes) ev → e ≡ endsOf p (endsField p v)
+  pub ends-is : (ev : List ℕ) (e : List Endpoints) → r ≡ rangeOf (p .«endpoint_range») → seq ≡ valuesOf r (bitsAt v (p .config .«low_len») (totalOf r (p .config .values))) (p .config .values)
+      → ev ≡ endpointValues (p .«endpoint_range») seq → e ≡ endpointsList (p .config .parts) (p .modes) ev → e ≡ endsOf p (endsField p v)
   unfolding endsOf
   ends-is ev e a b c d = d ∙ rw (c, b, a, f .ends-len)
 
 -- ---- the weights
 module _ (p : Params) (foot : Footprint) (v : ℕ) (k : Ready p foot) (r : Range) (seq : List ℕ) where
-  pub weights-given : (out : List ℕ) → r ≡ rangeOf (p .config .range) → seq ≡ valuesOf r (bitsAt (reversed 128 v) 0 (totalOf r (countOf p))) (countOf p) → out ≡ replicate mostWeights 0
-      → Given (gridOf p foot) (p .config .range) seq out
+  pub weights-given : (out : List ℕ) → r ≡ rangeOf (p .config .«weight_range») → seq ≡ valuesOf r (bitsAt (reversed 128 v) 0 (totalOf r (countOf p))) (countOf p) → out ≡ replicate mostWeights 0
+      → WeightsGiven (gridOf p foot) (p .config .«weight_range») seq out
   weights-given out a b z = record {
     fits = k .fits;
-    encoded = record { range = k .facts .weight-range; below = below (p .config .range) _ (countOf p) r seq a b; past = past _ (countOf p) r seq b };
+    encoded = record { range = k .facts .weight-range; below = below (p .config .«weight_range») _ (countOf p) r seq a b; past = past _ (countOf p) r seq b };
     clear = z;
   }
 
-  pub weights-is : (out : List ℕ) → r ≡ rangeOf (p .config .range) → seq ≡ valuesOf r (bitsAt (reversed 128 v) 0 (totalOf r (countOf p))) (countOf p)
-      → out ≡ weightsOf (gridOf p foot) (p .config .range) seq → out ≡ weightsIn p foot (weightsField p v)
+  pub weights-is : (out : List ℕ) → r ≡ rangeOf (p .config .«weight_range») → seq ≡ valuesOf r (bitsAt (reversed 128 v) 0 (totalOf r (countOf p))) (countOf p)
+      → out ≡ weightsOf (gridOf p foot) (p .config .«weight_range») seq → out ≡ weightsIn p foot (weightsField p v)
   unfolding weightsIn
   weights-is out a b c = c ∙ rw (b, a, k .facts .weights-len)
 
@@ -95,16 +95,16 @@ zeros-are n i = go (decLt i n)
     go (no h) = List·getD-eq-default (replicate n 0) 0 (rw (length-replicate {A = ℕ} n 0) (omega arith))
 
 module _ (p : Params) (foot : Footprint) (f : Facts p) where
-  pub ends-within : (field i : ℕ) → Within (getD (endsOf p field) i nothing)
+  pub ends-within : (field i : ℕ) → InLimits (getD (endsOf p field) i nothing)
   unfolding endsOf
   ends-within field i =
-      partition-within (p .config .parts) (p .modes) _ (endpoint-values-lt (p .range) _ (f .most) (values-lt (rangeOf (p .range)) field (p .config .values))) i
+      partition-within (p .config .parts) (p .modes) _ (endpoint-values-lt (p .«endpoint_range») _ (f .most) (values-lt (rangeOf (p .«endpoint_range»)) field (p .config .values))) i
 
   pub weights-light : (field i : ℕ) → getD (weightsIn p foot field) i 0 ≤ 64
   unfolding weightsIn
   weights-light field i =
-      weights-le (gridOf p foot) (p .config .range) _
-      (record { range = f .weight-range; below = values-lt (rangeOf (p .config .range)) field (countOf p); past = values-past (rangeOf (p .config .range)) field (countOf p) }) i
+      weights-le (gridOf p foot) (p .config .«weight_range») _
+      (record { range = f .weight-range; below = values-lt (rangeOf (p .config .«weight_range»)) field (countOf p); past = values-past (rangeOf (p .config .«weight_range»)) field (countOf p) }) i
 
   partitions-below : texelsOf foot ≤ mostTexels → (i : ℕ) → getD (partitionsIn p foot) i 0 < p .config .parts
   unfolding partitionsIn

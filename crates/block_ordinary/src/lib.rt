@@ -22,20 +22,20 @@ use params::Params;
 use weights_grid::Grid;
 
 // The endpoints of a legal block's partitions.
-fn ends_of(t: &[u16; 256], q: &[u16; 128], b: Block, p: Params) -> [Endpoints; 4]
-    requires { ⌜ (now t ≡ tritTable) × ((now q ≡ quintTable) × (Facts p)) ⌝ }
+fn ends_of(trits: &[u16; 256], quints: &[u16; 128], b: Block, p: Params) -> [Endpoints; 4]
+    requires { ⌜ (now trits ≡ tritTable) × ((now quints ≡ quintTable) × (Facts p)) ⌝ }
     ensures { λ r. ⌜ r ≡ endsOf p (endsField p (valueOf b)) ⌝ }
 {
     let k = p.config;
-    let range = p.range;
+    let range = p.endpoint_range;
     let modes = p.modes;
     let mut seq = [0u8; 72];
     sequence::decode_intseq(
         &mut seq,
-        t,
-        q,
+        trits,
+        quints,
         b,
-        k.lowlen,
+        k.low_len,
         sequence_ranges::range_of(range),
         k.values,
     );
@@ -47,25 +47,25 @@ fn ends_of(t: &[u16; 256], q: &[u16; 128], b: Block, p: Params) -> [Endpoints; 4
 // Puts the weights of a legal block's texels into out, which is all 0.
 fn weights_of(
     out: &mut [u8; WEIGHTS],
-    rev: &[u8; 256],
-    t: &[u16; 256],
-    q: &[u16; 128],
+    reversal: &[u8; 256],
+    trits: &[u16; 256],
+    quints: &[u16; 128],
     b: Block,
     p: Params,
     f: Footprint,
 )
-    requires { ⌜ (now out ≡ replicate mostWeights 0) × ((Lent (now rev) (now t) (now q)) × (Ready p f)) ⌝ }
+    requires { ⌜ (now out ≡ replicate mostWeights 0) × ((Lent (now reversal) (now trits) (now quints)) × (Ready p f)) ⌝ }
     ensures { λ _. ⌜ now (out .exit) ≡ weightsIn p f (weightsField p (valueOf b)) ⌝ }
 {
     let k = p.config;
     let mut seq = [0u8; 72];
     sequence::decode_intseq_reverse(
         &mut seq,
-        rev,
-        t,
-        q,
+        reversal,
+        trits,
+        quints,
         b,
-        sequence_ranges::range_of(k.range),
+        sequence_ranges::range_of(k.weight_range),
         k.width * k.height * k.planes,
     );
     let g = Grid {
@@ -74,7 +74,7 @@ fn weights_of(
         height: k.height,
         planes: k.planes,
     };
-    weights::decode_weights(out, g, k.range, &seq);
+    weights::decode_weights(out, g, k.weight_range, &seq);
 }
 
 // Puts the partition of each texel of a legal block into out, which is all 0.
@@ -103,16 +103,16 @@ pub struct BlockData {
 // Puts the lanes of a legal block, its words or its samples. Its record is made and filled here, where it is used: handed on by value it would be
 // copied.
 fn put_ordinary(
-    rev: &[u8; 256],
-    t: &[u16; 256],
-    q: &[u16; 128],
+    reversal: &[u8; 256],
+    trits: &[u16; 256],
+    quints: &[u16; 128],
     b: Block,
     p: Params,
     f: Footprint,
     lanes: &mut [u16; LANES],
     form: Form,
 )
-    requires { ⌜ (Lent (now rev) (now t) (now q)) × (Ready p f) ⌝ }
+    requires { ⌜ (Lent (now reversal) (now trits) (now quints)) × (Ready p f) ⌝ }
     ensures { λ _. ⌜ now (lanes .exit) ≡ formOf form p (valueOf b) f (now (lanes .entry)) ⌝ }
 {
     let k = p.config;
@@ -121,11 +121,11 @@ fn put_ordinary(
         parts: k.parts,
         planes: k.planes,
         channel: p.channel,
-        endpoints: ends_of(t, q, b, p),
+        endpoints: ends_of(trits, quints, b, p),
         weights: [0u8; WEIGHTS],
         partition: [0u8; TEXELS],
     };
-    weights_of(&mut d.weights, rev, t, q, b, p, f);
+    weights_of(&mut d.weights, reversal, trits, quints, b, p, f);
     partition_of(&mut d.partition, p, f);
     let ends = d.endpoints;
     match form {
@@ -154,21 +154,21 @@ fn put_ordinary(
 
 // Reads the parameters of a block at a listed footprint, puts its lanes if it is legal, and gives the answer.
 fn put_if_legal<'a>(
-    rev: &'a [u8; 256],
-    t: &'a [u16; 256],
-    q: &'a [u16; 128],
+    reversal: &'a [u8; 256],
+    trits: &'a [u16; 256],
+    quints: &'a [u16; 128],
     b: Block,
     f: Footprint,
     lanes: &mut [u16; LANES],
     form: Form,
 ) -> usize
-    requires { ⌜ (Lent (now rev) (now t) (now q)) × ((isVoid (valueOf b) ≡ false) × (listed f ≡ true)) ⌝ }
+    requires { ⌜ (Lent (now reversal) (now trits) (now quints)) × ((isVoid (valueOf b) ≡ false) × (listed f ≡ true)) ⌝ }
     ensures { λ a. ⌜ (a ≡ blockAnswer (valueOf b) f) × (now (lanes .exit) ≡ lanesIn form (valueOf b) f (now (lanes .entry))) ⌝ }
 {
     let p = params::decode_block_params(b, f);
     let a = p.answer;
     if a == answers::LEGAL {
-        put_ordinary(rev, t, q, b, p, f, lanes, form);
+        put_ordinary(reversal, trits, quints, b, p, f, lanes, form);
         return answers::LEGAL;
     }
     a
@@ -177,15 +177,15 @@ fn put_if_legal<'a>(
 // Puts the lanes of a legal block at a listed footprint, with lent tables; a block that breaks a rule puts none. It gives the answer.
 // Block and footprint are made anew of their numbers, which are then handed over in registers.
 pub fn decode_ordinary<'a>(
-    rev: &'a [u8; 256],
-    t: &'a [u16; 256],
-    q: &'a [u16; 128],
+    reversal: &'a [u8; 256],
+    trits: &'a [u16; 256],
+    quints: &'a [u16; 128],
     b: Block,
     f: Footprint,
     lanes: &mut [u16; LANES],
     form: Form,
 ) -> usize
-    requires { ⌜ (Lent (now rev) (now t) (now q)) × ((isVoid (valueOf b) ≡ false) × (listed f ≡ true)) ⌝ }
+    requires { ⌜ (Lent (now reversal) (now trits) (now quints)) × ((isVoid (valueOf b) ≡ false) × (listed f ≡ true)) ⌝ }
     ensures { λ a. ⌜ (a ≡ blockAnswer (valueOf b) f) × (now (lanes .exit) ≡ lanesIn form (valueOf b) f (now (lanes .entry))) ⌝ }
 {
     let own = Block { lo: b.lo, hi: b.hi };
@@ -193,5 +193,5 @@ pub fn decode_ordinary<'a>(
         width: f.width,
         height: f.height,
     };
-    put_if_legal(rev, t, q, own, foot, lanes, form)
+    put_if_legal(reversal, trits, quints, own, foot, lanes, form)
 }

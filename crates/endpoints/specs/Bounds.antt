@@ -10,7 +10,7 @@ use lib.Dec.{eqb, leb, ltb, lit<}
 use lib.ListN.{getD}
 use borrow.Author.Tests.{eqb-false}
 use Rattle.endpoints_colours.specs.Colours.{ldr, nothing}
-use Rattle.endpoints_colours.specs.Bounds.{limit, Within}
+use Rattle.endpoints_colours.specs.Bounds.{limit, InLimits}
 use Rattle.endpoints_rules.specs.Ldr.{offsetOf, clampedPair, luminance, luminanceOffset, luminanceAlphaOffset, scaled, direct, offset}
 use Rattle.endpoints_rules.specs.Hdr.{rgb, alphas, opaque, hdr, less, grey, luminanceLarge, luminanceSmall, swapped, sevenLess, hdr7}
 use Rattle.endpoints_rules.specs.Hdr11.{elevenMajor, under, elevenFirst, elevenSecond, hdr11, plainAlphas, offsetAlphas, hdrAlphas}
@@ -36,7 +36,7 @@ pub record Bytes (v : Values) : Type 0 where
   pub v7 : v .v7 < 256
 
 -- ---- pairs
-within-cond : (t : Bool) {a b : Endpoints} → Within a → Within b → Within (cond t a b)
+within-cond : (t : Bool) {a b : Endpoints} → InLimits a → InLimits b → InLimits (cond t a b)
 within-cond true x y = x
 within-cond false x y = y
 
@@ -46,10 +46,10 @@ record Under (n : ℕ) (c : Rgba) : Type 0 where
   b : c .b < n
   a : c .a < n
 
-within-ldr : {c d : Rgba} → Under 256 c → Under 256 d → Within (ldr c d)
+within-ldr : {c d : Rgba} → Under 256 c → Under 256 d → InLimits (ldr c d)
 within-ldr p q = record { r0 = p .r; g0 = p .g; b0 = p .b; a0 = p .a; r1 = q .r; g1 = q .g; b1 = q .b; a1 = q .a }
 
-within-clamped : (c d : Rgba) → Within (clampedPair c d)
+within-clamped : (c d : Rgba) → InLimits (clampedPair c d)
 within-clamped c d = record { r0 = omega arith; g0 = omega arith; b0 = omega arith; a0 = omega arith; r1 = omega arith; g1 = omega arith; b1 = omega arith; a1 = omega arith }
 
 record UnderHdr (c : Rgb) : Type 0 where
@@ -61,27 +61,27 @@ record AlphasWithin (t : Alphas) : Type 0 where
   first : t .first < limit (t .mark)
   second : t .second < limit (t .mark)
 
-within-hdr : {c d : Rgb} {t : Alphas} → UnderHdr c → UnderHdr d → AlphasWithin t → Within (hdr c d t)
+within-hdr : {c d : Rgb} {t : Alphas} → UnderHdr c → UnderHdr d → AlphasWithin t → InLimits (hdr c d t)
 within-hdr p q s = record { r0 = p .r; g0 = p .g; b0 = p .b; a0 = s .first; r1 = q .r; g1 = q .g; b1 = q .b; a1 = s .second }
 
 -- ---- the modes of low dynamic range
 module _ (v : Values) (h : Bytes v) where
-  luminance-within : (a0 a1 : ℕ) → a0 < 256 → a1 < 256 → Within (luminance (v .v0) (v .v1) a0 a1)
+  luminance-within : (a0 a1 : ℕ) → a0 < 256 → a1 < 256 → InLimits (luminance (v .v0) (v .v1) a0 a1)
   unfolding luminance
   luminance-within a0 a1 p q =
       within-ldr (record { r = h .v0; g = h .v0; b = h .v0; a = p }) (record { r = h .v1; g = h .v1; b = h .v1; a = q })
 
-  luminance-offset-within : Within (luminanceOffset (v .v0) (v .v1))
+  luminance-offset-within : InLimits (luminanceOffset (v .v0) (v .v1))
   unfolding luminanceOffset luminance
   luminance-offset-within =
       within-ldr (record { r = omega arith; g = omega arith; b = omega arith; a = omega arith })
       (record { r = omega arith; g = omega arith; b = omega arith; a = omega arith })
 
-  luminance-alpha-within : Within (luminanceAlphaOffset (v .v0) (v .v1) (v .v2) (v .v3))
+  luminance-alpha-within : InLimits (luminanceAlphaOffset (v .v0) (v .v1) (v .v2) (v .v3))
   unfolding luminanceAlphaOffset
   luminance-alpha-within = within-clamped _ _
 
-  scaled-within : (a0 a1 : ℕ) → a0 < 256 → a1 < 256 → Within (scaled v a0 a1)
+  scaled-within : (a0 a1 : ℕ) → a0 < 256 → a1 < 256 → InLimits (scaled v a0 a1)
   unfolding scaled
   scaled-within a0 a1 p q =
       let part : (x : ℕ) → x < 256 → x * v .v3 / 256 < 256 = λ x l. product x (v .v3) l (h .v3) in
@@ -94,14 +94,14 @@ module _ (v : Values) (h : Bytes v) where
           let b : y ≤ 255 = omega arith in
           omega (arith, mul-le-mul a b)
 
-  direct-within : (a0 a1 : ℕ) → a0 < 256 → a1 < 256 → Within (direct v a0 a1)
+  direct-within : (a0 a1 : ℕ) → a0 < 256 → a1 < 256 → InLimits (direct v a0 a1)
   unfolding direct
   direct-within a0 a1 p q =
       within-cond (leb (v .v0 + v .v2 + v .v4) (v .v1 + v .v3 + v .v5))
       (within-ldr (record { r = h .v0; g = h .v2; b = h .v4; a = p }) (record { r = h .v1; g = h .v3; b = h .v5; a = q }))
       (within-ldr (record { r = omega arith; g = omega arith; b = h .v5; a = q }) (record { r = omega arith; g = omega arith; b = h .v4; a = p }))
 
-  offset-within : (a0 a1 : ℕ) → Within (offset v a0 a1)
+  offset-within : (a0 a1 : ℕ) → InLimits (offset v a0 a1)
   unfolding offset
   offset-within a0 a1 = within-cond (leb 96 (offsetOf (v .v1) + offsetOf (v .v3) + offsetOf (v .v5))) (within-clamped _ _) (within-clamped _ _)
 
@@ -109,7 +109,7 @@ module _ (v : Values) (h : Bytes v) where
 opaque-within : AlphasWithin opaque
 opaque-within = record { first = lit< tt; second = lit< tt }
 
-grey-within : {x y : ℕ} → x < 4096 → y < 4096 → Within (grey x y)
+grey-within : {x y : ℕ} → x < 4096 → y < 4096 → InLimits (grey x y)
 grey-within p q = within-hdr (record { r = p; g = p; b = p }) (record { r = q; g = q; b = q }) opaque-within
 
 swapped-under : (major : ℕ) {c : Rgb} → UnderHdr c → UnderHdr (swapped major c)
@@ -153,19 +153,19 @@ offset-alphas-within (suc (suc (suc m))) x y h p q = absurd (past h)
     past h = omega arith
 
 module _ (v : Values) (h : Bytes v) where
-  large-within : Within (luminanceLarge (v .v0) (v .v1))
+  large-within : InLimits (luminanceLarge (v .v0) (v .v1))
   unfolding luminanceLarge
   large-within = within-cond (leb (v .v0) (v .v1)) (grey-within (omega arith) (omega arith)) (grey-within (omega arith) (omega arith))
 
-  small-within : Within (luminanceSmall (v .v0) (v .v1))
+  small-within : InLimits (luminanceSmall (v .v0) (v .v1))
   unfolding luminanceSmall
   small-within = within-cond (leb 128 (v .v0)) (grey-within (omega arith) (omega arith)) (grey-within (omega arith) (omega arith))
 
-  seven-within : Within (hdr7 (v .v0) (v .v1) (v .v2) (v .v3))
+  seven-within : InLimits (hdr7 (v .v0) (v .v1) (v .v2) (v .v3))
   unfolding hdr7
   seven-within = within-hdr (swapped-under _ (seven-under _ _ _)) (swapped-under _ (seven-under _ _ _)) opaque-within
 
-  eleven-within : (t : Alphas) → AlphasWithin t → Within (hdr11 v t)
+  eleven-within : (t : Alphas) → AlphasWithin t → InLimits (hdr11 v t)
   unfolding hdr11
   eleven-within t s =
       within-cond (eqb (elevenMajor v) 3) (within-hdr (record { r = omega arith; g = omega arith; b = omega arith }) (record { r = omega arith; g = omega arith; b = omega arith }) s)
@@ -190,14 +190,14 @@ module _ (v : Values) (h : Bytes v) where
 -- ---- every mode
 abbrev Every : List Endpoints → Type 0
 Every [] = Unit
-Every (e ∷ es) = Within e × Every es
+Every (e ∷ es) = InLimits e × Every es
 
-every-at : (es : List Endpoints) → Every es → (i : ℕ) → Within (getD es i nothing)
+every-at : (es : List Endpoints) → Every es → (i : ℕ) → InLimits (getD es i nothing)
 every-at [] p i = record { r0 = lit< tt; g0 = lit< tt; b0 = lit< tt; a0 = lit< tt; r1 = lit< tt; g1 = lit< tt; b1 = lit< tt; a1 = lit< tt }
 every-at (e ∷ es) p zero = p .0
 every-at (e ∷ es) p (suc i) = every-at es (p .1) i
 
-pub mode-within : (m : ℕ) (v : Values) → Bytes v → Within (endpointsOf m v)
+pub mode-within : (m : ℕ) (v : Values) → Bytes v → InLimits (endpointsOf m v)
 unfolding endpointsOf byMode
 mode-within m v h =
     let full : 255 < 256 = lit< tt in
@@ -247,12 +247,12 @@ mode-within m v h =
     m
 
 -- ---- every partition
-pub partition-within : (parts : ℕ) (modes ev : List ℕ) → ((j : ℕ) → getD ev j 0 < 256) → (i : ℕ) → Within (getD (endpointsList parts modes ev) i nothing)
+pub partition-within : (parts : ℕ) (modes ev : List ℕ) → ((j : ℕ) → getD ev j 0 < 256) → (i : ℕ) → InLimits (getD (endpointsList parts modes ev) i nothing)
 unfolding endpointsList partitionEndpoints valuesAt
 partition-within parts modes ev h i = every-at (endpointsList parts modes ev) (one 0, (one 1, (one 2, (one 3, tt)))) i
   where
     bytes : (k : ℕ) → Bytes (valuesAt ev k)
     bytes k = record { v0 = h k; v1 = h (k + 1); v2 = h (k + 2); v3 = h (k + 3); v4 = h (k + 4); v5 = h (k + 5); v6 = h (k + 6); v7 = h (k + 7) }
 
-    one : (i : ℕ) → Within (partitionEndpoints parts modes ev i)
+    one : (i : ℕ) → InLimits (partitionEndpoints parts modes ev i)
     one i = within-cond (ltb i parts) (mode-within (getD modes i 0) (valuesAt ev (countTo modes i)) (bytes (countTo modes i))) (every-at [] tt 0)

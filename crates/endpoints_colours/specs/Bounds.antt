@@ -9,7 +9,7 @@ abbrev pub limit : Mark → ℕ
 limit Ldr = 256
 limit Hdr = 4096
 
-pub record Within (e : Endpoints) : Type 0 where
+pub record InLimits (e : Endpoints) : Type 0 where
   pub r0 : e .r0 < limit (e .color)
   pub g0 : e .g0 < limit (e .color)
   pub b0 : e .b0 < limit (e .color)

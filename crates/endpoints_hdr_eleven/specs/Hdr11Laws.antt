@@ -76,7 +76,7 @@ elevenOf m v = record {
   d1 = up m (getD (offsets (v .v5)) m 0);
 }
 
-pub record Small (e : Eleven) : Type 0 where
+pub record ElevenBounds (e : Eleven) : Type 0 where
   pub a : e .a < 4096
   pub b0 : e .b0 < 2048
   pub b1 : e .b1 < 2048

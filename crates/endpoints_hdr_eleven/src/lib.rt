@@ -3,7 +3,7 @@ ghost use mathlib.Core.Path.{_≡_};
 ghost use Prim.Native.Nat.{_-_, _*_, _/_, _+_, _^_, _≤_, _<_};
 ghost use lib.ListN.{getD};
 ghost use Rattle.endpoints_rules.specs.Hdr11.{up};
-ghost use Rattle.endpoints_hdr_eleven.specs.Hdr11Laws.{bases, differences, commons, kept, offsets, elevenOf, Small};
+ghost use Rattle.endpoints_hdr_eleven.specs.Hdr11Laws.{bases, differences, commons, kept, offsets, elevenOf, ElevenBounds};
 use endpoints_colours::Values;
 
 // The numbers of mode 11: the base, two differences, what both endpoints differ by, and two offsets.
@@ -100,7 +100,7 @@ fn scale(mode: u8) -> u16
 
 pub fn parts_of_eleven(mode: u8, v: Values) -> Eleven
     requires { ⌜ mode < 8 ⌝ }
-    ensures { λ r. ⌜ (r ≡ elevenOf mode v) × (Small r) ⌝ }
+    ensures { λ r. ⌜ (r ≡ elevenOf mode v) × (ElevenBounds r) ⌝ }
 {
     let by = scale(mode);
     Eleven {

@@ -5,7 +5,7 @@ ghost use Prim.Native.Nat.{_+_, _<_};
 ghost use lib.Dec.{eqb};
 ghost use Rattle.endpoints_rules.specs.Hdr.{rgb, alphas, opaque, less};
 ghost use Rattle.endpoints_rules.specs.Hdr11.{hdr11, plainAlphas, offsetAlphas, hdrAlphas};
-ghost use Rattle.endpoints_hdr_eleven.specs.Hdr11Laws.{Small};
+ghost use Rattle.endpoints_hdr_eleven.specs.Hdr11Laws.{ElevenBounds};
 use crate::hdr;
 use endpoints_colours::Alphas;
 use endpoints_colours::Endpoints;
@@ -15,7 +15,7 @@ use endpoints_hdr_eleven::Eleven;
 use endpoints_rules::Rgb;
 
 fn first_eleven(e: Eleven) -> Rgb
-    requires { ⌜ Small e ⌝ }
+    requires { ⌜ ElevenBounds e ⌝ }
     ensures { λ r. ⌜ r ≡ rgb (less (e .a) (e .c)) (less (e .a) (e .b0 + e .c + e .d0)) (less (e .a) (e .b1 + e .c + e .d1)) ⌝ }
 {
     hdr::rgb_of(
@@ -26,7 +26,7 @@ fn first_eleven(e: Eleven) -> Rgb
 }
 
 fn second_eleven(e: Eleven) -> Rgb
-    requires { ⌜ Small e ⌝ }
+    requires { ⌜ ElevenBounds e ⌝ }
     ensures { λ r. ⌜ r ≡ rgb (e .a) (less (e .a) (e .b0)) (less (e .a) (e .b1)) ⌝ }
 {
     hdr::rgb_of(e.a, hdr::lessened(e.a, e.b0), hdr::lessened(e.a, e.b1))

@@ -21,7 +21,7 @@ use Rattle.block_ordinary.specs.Ordinary.{blockAnswer, lanesOf}
 use Rattle.block.specs.Block.{blockBits, magenta, wordAt}
 use Rattle.block.specs.WordLaws.{answer-mapped, word-void, word-bad, word-legal, lanes-length}
 use Rattle.image_shape.specs.Shapes.{acrossOf, totalOf, pixelsOf, blockOf, texelOf, bytesOf}
-use Rattle.image_shape.specs.ShapeLaws.{Bounded, Sized, sized-bounded}
+use Rattle.image_shape.specs.ShapeLaws.{ShapeBounds, Sized, sized-bounded}
 use Rattle.image_shape.specs.declared.Shape.{Shape}
 use Rattle.image_window.specs.Windows.{marked, isIn}
 use Rattle.image_window.specs.MarkLaws.{length-marked, marked-same, marked-none, marked-twice}
@@ -78,7 +78,7 @@ unfolding isIn
 block-is m b k e = in-one (ltb k (pixelsOf m)) (blockOf m k) b e
 
 -- a texel is one of the footprint's
-texel-lt : (m : Shape) (k : ℕ) → Bounded m → texelOf m k < texelsOf (m .footprint)
+texel-lt : (m : Shape) (k : ℕ) → ShapeBounds m → texelOf m k < texelsOf (m .footprint)
 texel-lt m k s =
     rw (mul-comm (m .footprint .width) (m .footprint .height))
     (digits-lt (mod-lt (k / m .width) (s .sides .row)) (mod-lt (k % m .width) (s .sides .column)))
@@ -155,7 +155,7 @@ bad-none : (d : List ℕ) (m : Shape) (i : ℕ) → 0 ≡ badIn d m i (i - i)
 unfolding badIn
 bad-none d m i = let e : i - i ≡ 0 = omega arith in rw e
 
-pub painting-first : (d : List ℕ) (m : Shape) (first end a : ℕ) (s lanes : List ℕ) → Bounded m → first ≤ end → a ≡ acrossOf m → a ≤ 4107 → length lanes ≡ mostLanes
+pub painting-first : (d : List ℕ) (m : Shape) (first end a : ℕ) (s lanes : List ℕ) → ShapeBounds m → first ≤ end → a ≡ acrossOf m → a ≤ 4107 → length lanes ≡ mostLanes
     → Painting d m first end s a s lanes (record { block = first; column = first % a; row = first / a }) 0
 painting-first d m first end a s lanes z l e k n = record {
   rows = e;
@@ -183,7 +183,7 @@ module _ (d : List ℕ) (m : Shape) (first end across : ℕ) (s out lanes : List
       rw (t, p .count, f)
       (ap (λ (z : ℕ). badIn d m first (at .block - first) + cond (isBad (mapAnswer (bytesOf d z) (m .footprint))) 1 0) (sym i))
 
-  pub painting-next : (a r : ℕ) (o k : List ℕ) (after : Spot) → Bounded m → at .block < end → after ≡ nextOf at across → (r ≡ cond (isBad a) 1 0) × (r ≤ 1)
+  pub painting-next : (a r : ℕ) (o k : List ℕ) (after : Spot) → ShapeBounds m → at .block < end → after ≡ nextOf at across → (r ≡ cond (isBad a) 1 0) × (r ≤ 1)
       → (a ≡ mapAnswer (bytesOf d (at .block)) (m .footprint)) × ((length k ≡ mostLanes) × (o ≡ paintedBlocks d m (at .block) (at .block + 1) out))
       → Painting d m first end s across o k after (bad + r)
   unfolding b

@@ -9,7 +9,7 @@ use native.Mathlib.Omega.{arith}
 use lib.Dec.{eqb}
 use borrow.Author.Tests.{eq-eqb, ne-eqb, eqb-true, eqb-false}
 use Rattle.image_shape.specs.Shapes.{acrossOf, downOf, totalOf}
-use Rattle.image_shape.specs.ShapeLaws.{Bounded}
+use Rattle.image_shape.specs.ShapeLaws.{ShapeBounds}
 use Rattle.image_shape.specs.declared.Shape.{Shape}
 use Rattle.image_window.specs.Windows.{blockAt, Inside}
 use Rattle.image_window.specs.Places.{some}
@@ -47,10 +47,10 @@ at-inside m at p h = record { column = p .column; row = go (decLt y (downOf m)) 
         let k : downOf m * acrossOf m ≤ y * acrossOf m = mul-le-mul-right (acrossOf m) (omega arith) in
         absurd (omega (arith, p .block, mul-comm (downOf m) (acrossOf m)))
 
-pub at-first : (m : Shape) (b a : ℕ) → Bounded m → a ≡ acrossOf m → At m (spot b (b % a) (b / a))
+pub at-first : (m : Shape) (b a : ℕ) → ShapeBounds m → a ≡ acrossOf m → At m (spot b (b % a) (b / a))
 at-first m b a s e = rw e (record { column = mod-lt b (some m s); row = div-le-self b _; block = sym (div-add-mod' b _) })
 
-pub at-next : (m : Shape) (at : Spot) (a : ℕ) → Bounded m → a ≡ acrossOf m → At m at → At m (nextOf at a)
+pub at-next : (m : Shape) (at : Spot) (a : ℕ) → ShapeBounds m → a ≡ acrossOf m → At m at → At m (nextOf at a)
 unfolding nextOf
 at-next m at a s e p = go (eqb (at .column + 1) a) (λ h. eqb-true _ _ h) (λ h. eqb-false _ _ h)
   where

@@ -50,16 +50,16 @@ fn bad_of(answer: usize) -> usize
 
 // Paints a block and gives its answer. The lanes of a legal block's words are put into `lanes`.
 fn paint_block<'a>(
-    rev: &'a [u8; 256],
-    t: &'a [u16; 256],
-    q: &'a [u16; 128],
+    reversal: &'a [u8; 256],
+    trits: &'a [u16; 256],
+    quints: &'a [u16; 128],
     data: &[u8],
     m: Shape,
     at: Spot,
     lanes: &mut [u16; LANES],
     out: &mut [u32],
 ) -> usize
-    requires { ⌜ Lent (now rev) (now t) (now q) × (Sized m (length (now «data»)) (length (now out)) × ((at .block < totalOf m) × ((At m at) × (length (now lanes) ≡ mostLanes)))) ⌝ }
+    requires { ⌜ Lent (now reversal) (now trits) (now quints) × (Sized m (length (now «data»)) (length (now out)) × ((at .block < totalOf m) × ((At m at) × (length (now lanes) ≡ mostLanes)))) ⌝ }
     ensures { λ r. ⌜ (r ≡ mapAnswer (bytesOf (now («data» .entry)) (at .block)) (m .footprint)) × ((length (now (lanes .exit)) ≡ mostLanes) × (now (out .exit) ≡ paintedBlocks (now («data» .entry)) m (at .block) (at .block + 1) (now (out .entry)))) ⌝ }
 {
     let start = 16 * at.block;
@@ -70,7 +70,7 @@ fn paint_block<'a>(
         image_window::fill_block(block_void::void_color(b), m, at.column, at.row, out);
         return a;
     }
-    let answer = block_ordinary::decode_ordinary(rev, t, q, b, m.footprint, lanes, Form::Words);
+    let answer = block_ordinary::decode_ordinary(reversal, trits, quints, b, m.footprint, lanes, Form::Words);
     if answer == answers::LEGAL {
         image_window::copy_block(lanes, m, at.column, at.row, out);
         return answers::LEGAL;

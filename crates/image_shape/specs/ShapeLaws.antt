@@ -15,7 +15,7 @@ use Rattle.image_shape.specs.Shapes.{totalOf, pixelsOf, longestSide, isS
 use Rattle.image_shape.specs.declared.Shape.{Shape}
 
 -- sides that have pixels, and of which no product leaves a word
-pub record Bounded (m : Shape) : Type 0 where
+pub record ShapeBounds (m : Shape) : Type 0 where
   pub width : (1 ≤ m .width) × (m .width ≤ longestSide)
   pub height : (1 ≤ m .height) × (m .height ≤ longestSide)
   pub sides : Sides (m .footprint)
@@ -40,7 +40,7 @@ side-bounds n e = go (decLt n 1) (decLt 4096 n)
 pub side-is : (n : ℕ) → (1 ≤ n) × (n ≤ longestSide) → isSide n ≡ true
 side-is n h = rw (le-leb 1 n (h .0), le-leb n 4096 (h .1))
 
-pub bounded-of : (m : Shape) → listed (m .footprint) ≡ true → isSide (m .width) ≡ true → isSide (m .height) ≡ true → Bounded m
+pub bounded-of : (m : Shape) → listed (m .footprint) ≡ true → isSide (m .width) ≡ true → isSide (m .height) ≡ true → ShapeBounds m
 bounded-of m l w h = record { width = side-bounds (m .width) w; height = side-bounds (m .height) h; sides = sides-of (m .footprint) l }
 
 -- ---- the checks
@@ -98,7 +98,7 @@ pub sized-accepted : (m : Shape) (len room : ℕ) → Sized m len room → refus
 sized-accepted m len room s =
     sym (out-0 m len room (s .footprint) (totalOf m) (side-is (m .width) (s .width)) (side-is (m .height) (s .height)) refl (s .bytes) (s .room))
 
-pub sized-bounded : (m : Shape) (len places : ℕ) → Sized m len places → Bounded m
+pub sized-bounded : (m : Shape) (len places : ℕ) → Sized m len places → ShapeBounds m
 sized-bounded m len places s = record { width = s .width; height = s .height; sides = sides-of (m .footprint) (s .footprint) }
 
 -- an output of the same length has the same room

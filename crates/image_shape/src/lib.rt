@@ -2,7 +2,7 @@
 ghost use mathlib.Core.Path.{_≡_};
 ghost use Prim.Native.Nat.{_≤_, _<_};
 ghost use Rattle.image_shape.specs.Shapes.{alongOf, totalOf, isSide, refusalOf, stepRefusal};
-ghost use Rattle.image_shape.specs.ShapeLaws.{Bounded};
+ghost use Rattle.image_shape.specs.ShapeLaws.{ShapeBounds};
 use footprint::Footprint;
 
 // The most pixels of a side.
@@ -34,7 +34,7 @@ pub fn along(n: usize, side: usize) -> usize
 
 // The blocks of an image.
 pub fn total(m: Shape) -> usize
-    requires { ⌜ Bounded m ⌝ }
+    requires { ⌜ ShapeBounds m ⌝ }
     ensures { λ r. ⌜ (r ≡ totalOf m) × (r ≤ 16867449) ⌝ }
 {
     let f = m.footprint;

@@ -13,7 +13,7 @@ use lib.Seq.{ext-getD}
 use borrow.Author.Tests.{eq-eqb, ne-eqb, eqb-true, lt-ltb, le-ltb, le-leb, lt-leb}
 use Rattle.laws.specs.Lists.{put, putAt, length-put, length-putAt, put-in, put-before, put-after, length-mapAt, getD-mapAt}
 use Rattle.image_shape.specs.Shapes.{totalOf, pixelsOf, blockOf, texelOf}
-use Rattle.image_shape.specs.ShapeLaws.{Bounded}
+use Rattle.image_shape.specs.ShapeLaws.{ShapeBounds}
 use Rattle.image_shape.specs.declared.Shape.{Shape}
 use Rattle.image_window.specs.Windows.{rowAt, rowsOf, columnsOf, windowOf, rowsPut, marked, isIn}
 use Rattle.image_window.specs.Places.{window-row, in-row, in-block}
@@ -82,7 +82,7 @@ rows-none m b f s =
     marked-none (isAbove m b 0) f s
     (λ k. rw (le-ltb (k / m .width % m .footprint .height) 0 (omega arith), and-false (eqb (blockOf m k) b), and-false (ltb k (pixelsOf m))))
 
-module _ (m : Shape) (z : Bounded m) (b : ℕ) (h : b < totalOf m) where
+module _ (m : Shape) (z : ShapeBounds m) (b : ℕ) (h : b < totalOf m) where
   -- in row r
   above-inside : (r k : ℕ) → r < rowsOf m b → rowAt m b r ≤ k → k < rowAt m b r + columnsOf m b → isAbove m b (r + 1) k ≡ true
   unfolding isAbove

@@ -9,7 +9,7 @@ use mathlib.Core.List.{List}
 use lib.Arith.{digits-lt, digits-div, digits-mod}
 use Rattle.footprint.specs.Footprints.{mostTexels}
 use Rattle.image_shape.specs.Shapes.{alongOf, acrossOf, downOf, totalOf, pixelsOf, blockOf}
-use Rattle.image_shape.specs.ShapeLaws.{Bounded}
+use Rattle.image_shape.specs.ShapeLaws.{ShapeBounds}
 use Rattle.image_shape.specs.declared.Shape.{Shape}
 use Rattle.image_window.specs.Windows.{leftOf, topOf, columnsOf, rowsOf, rowAt, windowOf, blockAt, Inside, RowsFit}
 use Rattle.image_window.specs.declared.Window.{Window}
@@ -44,7 +44,7 @@ block-inside n side x p h = go (decLt (x / side) (alongOf n side))
     go (no l) = absurd (clash (omega arith))
 
 -- there is a column of blocks
-pub some : (m : Shape) → Bounded m → 0 < acrossOf m
+pub some : (m : Shape) → ShapeBounds m → 0 < acrossOf m
 some m s = let l : 0 / m .footprint .width < acrossOf m = block-inside (m .width) (m .footprint .width) 0 (s .sides .column) (s .width .0) in omega arith
 
 -- ---- a block by its column and row
@@ -70,7 +70,7 @@ texels-fit m b r w h l =
     let e : suc r * m .footprint .width ≡ r * m .footprint .width + m .footprint .width = suc-mul r (m .footprint .width) in
     omega arith
 
-module _ (m : Shape) (s : Bounded m) (b : ℕ) (h : b < totalOf m) where
+module _ (m : Shape) (s : ShapeBounds m) (b : ℕ) (h : b < totalOf m) where
   a : ℕ
   a = acrossOf m
 

@@ -5,7 +5,7 @@ ghost use lib.ListN.{length};
 ghost use Rattle.footprint.specs.Footprints.{mostTexels};
 ghost use Rattle.lanes.specs.Lanes.{joinedAt};
 ghost use Rattle.image_shape.specs.Shapes.{acrossOf, downOf, pixelsOf, texelOf};
-ghost use Rattle.image_shape.specs.ShapeLaws.{Bounded};
+ghost use Rattle.image_shape.specs.ShapeLaws.{ShapeBounds};
 ghost use Rattle.image_window.specs.Windows.{Inside, blockAt, windowOf, rowsPut, RowsFit, marked, isIn};
 use image_shape::Shape;
 use lanes::LANES;
@@ -21,7 +21,7 @@ fn smaller(a: usize, b: usize) -> usize
 
 // The first column of the blocks in column x.
 fn left_of(m: Shape, x: usize) -> usize
-    requires { ⌜ (Bounded m) × (x < acrossOf m) ⌝ }
+    requires { ⌜ (ShapeBounds m) × (x < acrossOf m) ⌝ }
     ensures { λ r. ⌜ (r ≡ x * m .footprint .width) × (r < m .width) ⌝ }
 {
     x * m.footprint.width
@@ -29,7 +29,7 @@ fn left_of(m: Shape, x: usize) -> usize
 
 // The first row of the blocks in row y.
 fn top_of(m: Shape, y: usize) -> usize
-    requires { ⌜ (Bounded m) × (y < downOf m) ⌝ }
+    requires { ⌜ (ShapeBounds m) × (y < downOf m) ⌝ }
     ensures { λ r. ⌜ (r ≡ y * m .footprint .height) × (r < m .height) ⌝ }
 {
     y * m.footprint.height
@@ -37,7 +37,7 @@ fn top_of(m: Shape, y: usize) -> usize
 
 // Where the pixels of row y from column x on stand.
 fn place(m: Shape, y: usize, x: usize) -> usize
-    requires { ⌜ (Bounded m) × ((y < m .height) × (x < m .width)) ⌝ }
+    requires { ⌜ (ShapeBounds m) × ((y < m .height) × (x < m .width)) ⌝ }
     ensures { λ r. ⌜ r ≡ y * m .width + x ⌝ }
 {
     y * m.width + x
@@ -52,7 +52,7 @@ pub struct Window {
 
 // The window of the block in column x and row y.
 fn window_of(m: Shape, x: usize, y: usize) -> Window
-    requires { ⌜ (Bounded m) × (Inside m x y) ⌝ }
+    requires { ⌜ (ShapeBounds m) × (Inside m x y) ⌝ }
     ensures { λ r. ⌜ r ≡ windowOf m (blockAt m x y) ⌝ }
 {
     let left = left_of(m, x);
@@ -86,7 +86,7 @@ fn copy_rows(
 
 // Copies the words of the block in column x and row y to its pixels, as far as it lies in the image.
 pub fn copy_block(lanes: &[u16; LANES], m: Shape, x: usize, y: usize, out: &mut [u32])
-    requires { ⌜ (Bounded m) × ((Inside m x y) × (pixelsOf m ≤ length (now out))) ⌝ }
+    requires { ⌜ (ShapeBounds m) × ((Inside m x y) × (pixelsOf m ≤ length (now out))) ⌝ }
     ensures { λ _. ⌜ now (out .exit) ≡ marked (isIn m (blockAt m x y) (blockAt m x y + 1)) (λ (k : ℕ). joinedAt (now (lanes .entry)) (texelOf m k)) (now (out .entry)) ⌝ }
 {
     let w = window_of(m, x, y);
@@ -116,7 +116,7 @@ fn fill_rows(word: u32, out: &mut [u32], at: usize, width: usize, rows: usize, n
 // Fills the pixels of the block in column x and row y, as far as it lies in the image, with one word. A row as wide as a footprint has a
 // loop of its own: of a number of places that the compiler knows.
 pub fn fill_block(word: u32, m: Shape, x: usize, y: usize, out: &mut [u32])
-    requires { ⌜ (Bounded m) × ((Inside m x y) × (pixelsOf m ≤ length (now out))) ⌝ }
+    requires { ⌜ (ShapeBounds m) × ((Inside m x y) × (pixelsOf m ≤ length (now out))) ⌝ }
     ensures { λ _. ⌜ now (out .exit) ≡ marked (isIn m (blockAt m x y) (blockAt m x y + 1)) (λ (k : ℕ). word) (now (out .entry)) ⌝ }
 {
     let w = window_of(m, x, y);

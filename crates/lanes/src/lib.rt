@@ -25,7 +25,7 @@ pub fn eights(n: usize) -> usize
 }
 
 // A cast in a function of its own: its caller need not show that the number fits.
-fn long(x: u16) -> u32
+fn u32_of(x: u16) -> u32
     ensures { λ r. ⌜ (r ≡ x) × (r < 65536) ⌝ }
 {
     x as u32
@@ -36,7 +36,7 @@ pub fn word(lanes: &[u16; LANES], i: usize) -> u32
     requires { ⌜ i < mostTexels ⌝ }
     ensures { λ r. ⌜ r ≡ joinedAt (now (lanes .entry)) i ⌝ }
 {
-    long(lanes[2 * i]) + 0x1_0000 * long(lanes[2 * i + 1])
+    u32_of(lanes[2 * i]) + 0x1_0000 * u32_of(lanes[2 * i + 1])
 }
 
 // Copies the words of texels from .. from + n to out[to .. to + n].

@@ -17,7 +17,7 @@ use Rattle.params_low.specs.Low.{isVoid, lowOf}
 use Rattle.params_modes.specs.Modes.{valuesTo}
 use Rattle.params_modes.specs.ModeLaws.{Coded, values-low}
 use Rattle.params_config.specs.Config.{isReserved, configOf}
-use Rattle.params_config.specs.Bounds.{Small}
+use Rattle.params_config.specs.Bounds.{ConfigBounds}
 use Rattle.params_config.specs.declared.Config.{Config}
 use Rattle.params_rules.specs.Rules.{used, verdict}
 use Rattle.params_rules.specs.Fields.{Fields, fieldsOf, extraIn, answer}
@@ -65,41 +65,41 @@ out-legal v f c a k r s q h m n o p z g =
 extra-lt : (v s n : ℕ) → n ≤ 10 → bitsAt v s n < 1024
 extra-lt v s n h = lt-of-lt-of-le (bits-lt v s n) (pow-mono h)
 
-pub extra-of : (k : Config) (v r : ℕ) → Small k → r ≡ extraIn k v → (r ≡ extraIn k v) × (r < 1024)
-extra-of k v r s e = (e, rw e (extra-lt v _ _ (omega (arith, s .modebits, s .planes))))
+pub extra-of : (k : Config) (v r : ℕ) → ConfigBounds k → r ≡ extraIn k v → (r ≡ extraIn k v) × (r < 1024)
+extra-of k v r s e = (e, rw e (extra-lt v _ _ (omega (arith, s .«mode_bits», s .planes))))
 
 pub upper-lt : (planes e : ℕ) → e < 1024 → upperOf planes e < 1024
 unfolding upperOf
 upper-lt planes e h = choice (eqb planes 2) (e / 4) e (omega arith) h
 
 -- ---- the mode bits
-pub code-alone : (k : Config) (e : ℕ) → Small k → k .base ≡ 0 → (k .lowmodes ≡ codeIn k e) × (Coded (k .base) (k .lowmodes))
+pub code-alone : (k : Config) (e : ℕ) → ConfigBounds k → k .base ≡ 0 → (k .«low_modes» ≡ codeIn k e) × (Coded (k .base) (k .«low_modes»))
 unfolding codeIn
 code-alone k e s z = (rw (eq-eqb (k .base) 0 z), s .coded)
 
-pub code-based : (k : Config) (e x : ℕ) → Small k → (k .base ≡ 0 → ⊥) → x ≡ upperOf (k .planes) e → (k .lowmodes + 16 * x ≡ codeIn k e) × (Coded (k .base) (k .lowmodes + 16 * x))
+pub code-based : (k : Config) (e x : ℕ) → ConfigBounds k → (k .base ≡ 0 → ⊥) → x ≡ upperOf (k .planes) e → (k .«low_modes» + 16 * x ≡ codeIn k e) × (Coded (k .base) (k .«low_modes» + 16 * x))
 unfolding codeIn
 code-based k e x s z d = (rw (ne-eqb (k .base) 0 z, d), record { most = s .coded .most; alone = λ h. absurd (z h) })
 
-pub code-is : (k : Config) (e : ℕ) → Small k → Coded (k .base) (codeIn k e)
+pub code-is : (k : Config) (e : ℕ) → ConfigBounds k → Coded (k .base) (codeIn k e)
 unfolding codeIn
 code-is k e s = go (eqb (k .base) 0) refl
   where
-    go : (t : Bool) → eqb (k .base) 0 ≡ t → Coded (k .base) (cond t (k .lowmodes) (k .lowmodes + 16 * upperOf (k .planes) e))
+    go : (t : Bool) → eqb (k .base) 0 ≡ t → Coded (k .base) (cond t (k .«low_modes») (k .«low_modes» + 16 * upperOf (k .planes) e))
     go true h = s .coded
     go false h = record { most = s .coded .most; alone = λ z. absurd (eqb-false _ _ h z) }
 
 -- the modes take as many values as the low configuration says: their classes stand in it
-pub code-values : (k : Config) (e p : ℕ) → p ≤ 4 → valuesTo (k .base) (codeIn k e) p ≡ valuesTo (k .base) (k .lowmodes) p
+pub code-values : (k : Config) (e p : ℕ) → p ≤ 4 → valuesTo (k .base) (codeIn k e) p ≡ valuesTo (k .base) (k .«low_modes») p
 unfolding codeIn
 code-values k e p h = go (eqb (k .base) 0) refl
   where
-    go : (t : Bool) → eqb (k .base) 0 ≡ t → valuesTo (k .base) (cond t (k .lowmodes) (k .lowmodes + 16 * upperOf (k .planes) e)) p ≡ valuesTo (k .base) (k .lowmodes) p
+    go : (t : Bool) → eqb (k .base) 0 ≡ t → valuesTo (k .base) (cond t (k .«low_modes») (k .«low_modes» + 16 * upperOf (k .planes) e)) p ≡ valuesTo (k .base) (k .«low_modes») p
     go true z = refl
-    go false z = values-low (k .base) (k .lowmodes) (upperOf (k .planes) e) p (eqb-false _ _ z) h
+    go false z = values-low (k .base) (k .«low_modes») (upperOf (k .planes) e) p (eqb-false _ _ z) h
 
 -- ---- a legal block's range is the widest that has room
-pub range-widest : (v : ℕ) (f : Footprint) → paramsOf v f .answer ≡ 0 → Widest 20 (paramsOf v f .config .values) (used (paramsOf v f .config)) (paramsOf v f .range)
+pub range-widest : (v : ℕ) (f : Footprint) → paramsOf v f .answer ≡ 0 → Widest 20 (paramsOf v f .config .values) (used (paramsOf v f .config)) (paramsOf v f .«endpoint_range»)
 unfolding legal
 range-widest v f e =
     let a : answer (fieldsOf v) f ≡ 0 = sym (answer-is (fieldsOf v) f) ∙ e in
@@ -116,24 +116,24 @@ map-same v w f e = ap (λ (t : Fields). mapIn t f) e
 pub one-answer : (v : ℕ) (f : Footprint) → mapOf v f .answer ≡ paramsOf v f .answer
 one-answer v f = map-answer (fieldsOf v) f ∙ sym (answer-is (fieldsOf v) f)
 
-pub ends-mapped : (v w : ℕ) (f : Footprint) → paramsOf v f .answer ≡ 0 → bitsAt w (mapOf v f .endat) (mapOf v f .endlen) ≡ endsField (paramsOf v f) w
+pub ends-mapped : (v w : ℕ) (f : Footprint) → paramsOf v f .answer ≡ 0 → bitsAt w (mapOf v f .«end_at») (mapOf v f .«end_len») ≡ endsField (paramsOf v f) w
 unfolding legal legalMap
 ends-mapped v w f e =
     let a : answer (fieldsOf v) f ≡ 0 = sym (answer-is (fieldsOf v) f) ∙ e in
     rw (map-legal (fieldsOf v) f a, legal-is (fieldsOf v) f a)
 
-weights-len : (v : ℕ) (f : Footprint) → paramsOf v f .answer ≡ 0 → mapOf v f .weightlen ≡ paramsOf v f .config .weightlen
+weights-len : (v : ℕ) (f : Footprint) → paramsOf v f .answer ≡ 0 → mapOf v f .«weight_len» ≡ paramsOf v f .config .«weight_len»
 unfolding legal legalMap
 weights-len v f e =
     let a : answer (fieldsOf v) f ≡ 0 = sym (answer-is (fieldsOf v) f) ∙ e in
     rw (map-legal (fieldsOf v) f a, legal-is (fieldsOf v) f a)
 
-pub weights-mapped : (v w : ℕ) (f : Footprint) → paramsOf v f .answer ≡ 0 → reversed (mapOf v f .weightlen) (bitsAt w (mapOf v f .weightat) (mapOf v f .weightlen)) ≡ weightsField (paramsOf v f) w
+pub weights-mapped : (v w : ℕ) (f : Footprint) → paramsOf v f .answer ≡ 0 → reversed (mapOf v f .«weight_len») (bitsAt w (mapOf v f .«weight_at») (mapOf v f .«weight_len»)) ≡ weightsField (paramsOf v f) w
 weights-mapped v w f e =
     let m = mapOf v f in
     let o = in-order v f (one-answer v f ∙ e) in
-    let s : m .weightat ≡ 128 - m .weightlen = omega (arith, o .last) in
-    rw (s, ← (weights-len v f e)) (sym (reversed-top 128 (m .weightlen) w (omega (arith, o .last))))
+    let s : m .«weight_at» ≡ 128 - m .«weight_len» = omega (arith, o .last) in
+    rw (s, ← (weights-len v f e)) (sym (reversed-top 128 (m .«weight_len») w (omega (arith, o .last))))
 
 -- whatever stands at the unmapped bits of a legal block, its fields, parameters, endpoints and weights are the same
 pub record SameParams (v w : ℕ) (f : Footprint) : Type 0 where
@@ -150,5 +150,5 @@ local v w f e h =
       fields = s .fields;
       params = params-same v w f (s .fields);
       ends = sym (ends-mapped v v f e) ∙ s .ends ∙ ends-mapped v w f e;
-      weights = sym (weights-mapped v v f e) ∙ ap (reversed (m .weightlen)) (s .weights) ∙ weights-mapped v w f e;
+      weights = sym (weights-mapped v v f e) ∙ ap (reversed (m .«weight_len»)) (s .weights) ∙ weights-mapped v w f e;
     }

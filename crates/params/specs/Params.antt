@@ -24,7 +24,7 @@ upperOf planes e = cond (eqb planes 2) (e / 4) e
 
 -- the mode bits as they stand in the block, as one number: with a base, those of the extra field go on from the low configuration's
 unfoldable pub codeIn : Config → ℕ → ℕ
-codeIn k e = cond (eqb (k .base) 0) (k .lowmodes) (k .lowmodes + 16 * upperOf (k .planes) e)
+codeIn k e = cond (eqb (k .base) 0) (k .«low_modes») (k .«low_modes» + 16 * upperOf (k .planes) e)
 
 -- ---- the parameters of a legal block, of which the low configuration says k and whose extra field is e
 unfoldable pub legal : Config → ℕ → Params
@@ -32,17 +32,17 @@ legal k e = record {
   answer = legalAnswer;
   config = k;
   channel = channelOf (k .planes) e;
-  modecode = codeIn k e;
+  «mode_code» = codeIn k e;
   modes = modesOf (k .parts) (k .base) (codeIn k e);
-  range = endRange k;
+  «endpoint_range» = endRange k;
 }
 
 abbrev pub noConfig : Config
-noConfig = record { width = 0; height = 0; range = 0; planes = 0; parts = 0; number = 0; base = 0; lowmodes = 0; values = 0; lowlen = 0; modebits = 0; weightlen = 0 }
+noConfig = record { width = 0; height = 0; «weight_range» = 0; planes = 0; parts = 0; number = 0; base = 0; «low_modes» = 0; values = 0; «low_len» = 0; «mode_bits» = 0; «weight_len» = 0 }
 
 -- of any other block
 unfoldable pub refused : ℕ → Params
-refused a = record { answer = a; config = noConfig; channel = 0; modecode = 0; modes = 0 ∷ 0 ∷ 0 ∷ 0 ∷ []; range = 0 }
+refused a = record { answer = a; config = noConfig; channel = 0; «mode_code» = 0; modes = 0 ∷ 0 ∷ 0 ∷ 0 ∷ []; «endpoint_range» = 0 }
 
 -- of a block with the fields t at the footprint f
 unfoldable pub paramsIn : Fields → Footprint → Params
@@ -54,8 +54,8 @@ paramsOf v f = paramsIn (fieldsOf v) f
 
 -- ---- the other two fields of a block v with the parameters p
 abbrev pub endsField : Params → ℕ → ℕ
-endsField p v = bitsAt v (p .config .lowlen) (cost (p .range) (p .config .values))
+endsField p v = bitsAt v (p .config .«low_len») (cost (p .«endpoint_range») (p .config .values))
 
 -- the weights are read from the block's top downwards
 abbrev pub weightsField : Params → ℕ → ℕ
-weightsField p v = bitsAt (reversed 128 v) 0 (p .config .weightlen)
+weightsField p v = bitsAt (reversed 128 v) 0 (p .config .«weight_len»)

@@ -9,7 +9,7 @@ ghost use Rattle.bits.specs.Blocks.{valueOf};
 ghost use Rattle.params_low.specs.Low.{isVoid};
 ghost use Rattle.params_modes.specs.ModeLaws.{Coded};
 ghost use Rattle.params_rules.specs.Fields.{extraIn};
-ghost use Rattle.params_room.specs.RoomLaws.{Given};
+ghost use Rattle.params_room.specs.RoomLaws.{LegalConfig};
 ghost use Rattle.params.specs.Params.{channelOf, upperOf, codeIn, legal, refused, paramsOf};
 
 // The mode code is the mode bits as they stand in a block, as one number; the base that goes with it stands in the configuration.
@@ -17,18 +17,18 @@ pub struct Params {
     pub answer: usize,
     pub config: Config,
     pub channel: usize,
-    pub modecode: usize,
+    pub mode_code: usize,
     pub modes: [u8; 4],
-    pub range: usize,
+    pub endpoint_range: usize,
 }
 
 // The extra field: the mode bits below the weights, and below those the channel of the second plane.
 fn extra_field(b: Block, k: Config) -> usize
-    requires { ⌜ Given k ⌝ }
+    requires { ⌜ LegalConfig k ⌝ }
     ensures { λ r. ⌜ (r ≡ extraIn k (valueOf b)) × (r < 1024) ⌝ }
 {
-    let len = k.modebits + 2 * (k.planes - 1);
-    bits::getbits(b, 128 - (k.weightlen + len), len) as usize
+    let len = k.mode_bits + 2 * (k.planes - 1);
+    bits::getbits(b, 128 - (k.weight_len + len), len) as usize
 }
 
 fn channel_of(planes: usize, e: usize) -> usize
@@ -46,30 +46,30 @@ fn upper_of(planes: usize, e: usize) -> usize
 
 // The mode bits as they stand in a block whose extra field is e.
 fn mode_code(k: Config, e: usize) -> usize
-    requires { ⌜ (Given k) × (e < 1024) ⌝ }
+    requires { ⌜ (LegalConfig k) × (e < 1024) ⌝ }
     ensures { λ r. ⌜ (r ≡ codeIn k e) × (Coded (k .base) r) ⌝ }
 {
     if k.base == 0 {
-        return k.lowmodes;
+        return k.low_modes;
     }
-    k.lowmodes + 16 * upper_of(k.planes, e)
+    k.low_modes + 16 * upper_of(k.planes, e)
 }
 
 // The parameters of a legal block: k is what its low configuration says.
 fn accept(b: Block, k: Config) -> Params
-    requires { ⌜ Given k ⌝ }
+    requires { ⌜ LegalConfig k ⌝ }
     ensures { λ r. ⌜ r ≡ legal k (extraIn k (valueOf b)) ⌝ }
 {
-    let range = params_room::end_range(k);
+    let endpoint_range = params_room::end_range(k);
     let e = extra_field(b, k);
-    let modecode = mode_code(k, e);
+    let code = mode_code(k, e);
     Params {
         answer: answers::LEGAL,
         config: k,
         channel: channel_of(k.planes, e),
-        modecode,
-        modes: params_modes::modes_of(k.parts, k.base, modecode),
-        range,
+        mode_code: code,
+        modes: params_modes::modes_of(k.parts, k.base, code),
+        endpoint_range,
     }
 }
 
@@ -81,21 +81,21 @@ fn refuse(answer: usize) -> Params
         config: Config {
             width: 0,
             height: 0,
-            range: 0,
+            weight_range: 0,
             planes: 0,
             parts: 0,
             number: 0,
             base: 0,
-            lowmodes: 0,
+            low_modes: 0,
             values: 0,
-            lowlen: 0,
-            modebits: 0,
-            weightlen: 0,
+            low_len: 0,
+            mode_bits: 0,
+            weight_len: 0,
         },
         channel: 0,
-        modecode: 0,
+        mode_code: 0,
         modes: [0, 0, 0, 0],
-        range: 0,
+        endpoint_range: 0,
     }
 }
 

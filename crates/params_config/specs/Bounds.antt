@@ -26,25 +26,25 @@ use Rattle.params_config.specs.Config.{isReserved, gridLow, gridHigh, gr
 use Rattle.params_config.specs.declared.Config.{Config}
 use Rattle.params_config.specs.declared.Grid.{Grid}
 
-pub record Small (k : Config) : Type 0 where
+pub record ConfigBounds (k : Config) : Type 0 where
   pub column : 2 ≤ k .width
   pub width : k .width ≤ 12
   pub row : 2 ≤ k .height
   pub height : k .height ≤ 12
-  pub range : k .range ≤ 11
+  pub weight-range : k .«weight_range» ≤ 11
   pub plane : 1 ≤ k .planes
   pub planes : k .planes ≤ 2
   pub part : 1 ≤ k .parts
   pub parts : k .parts ≤ 4
   pub number : k .number < 1024
-  pub low-modes : k .lowmodes < 16
-  pub coded : Coded (k .base) (k .lowmodes)
+  pub low-modes : k .«low_modes» < 16
+  pub coded : Coded (k .base) (k .«low_modes»)
   pub values : k .values ≤ 32
   pub pairs : k .values % 2 ≡ 0
   pub pair : 2 ≤ k .values
-  pub lowlen : k .lowlen ≤ 29
-  pub modebits : k .modebits ≤ 8
-  pub weightlen : k .weightlen ≤ 2304 + 672
+  pub «low_len» : k .«low_len» ≤ 29
+  pub «mode_bits» : k .«mode_bits» ≤ 8
+  pub «weight_len» : k .«weight_len» ≤ 2304 + 672
 
 -- ---- ranges
 -- the bits of the digits of n values
@@ -172,14 +172,14 @@ weights-most c =
 pub range-most : (c : ℕ) → weightRange c ≤ 11
 range-most c = omega (arith, r-most c, h-most c)
 
-pub small : (c : ℕ) → Small (configOf c)
+pub small : (c : ℕ) → ConfigBounds (configOf c)
 unfolding configOf partitionsOf
 small c = record {
   column = grid-small c .column;
   width = grid-small c .width;
   row = grid-small c .row;
   height = grid-small c .height;
-  range = range-most c;
+  weight-range = range-most c;
   plane = omega arith;
   planes = omega (arith, d-most c);
   part = parts-least c;
@@ -190,12 +190,12 @@ small c = record {
   values = omega (arith, values-most _ _ (coded c) (partsOf c), parts-most c);
   pairs = values-even _ _ (partsOf c);
   pair = values-least _ _ (partsOf c) (parts-least c);
-  lowlen = conf-most (partsOf c);
-  modebits = mode-bits-most c;
-  weightlen = cost-le (weightRange c) _ (omega (arith, range-most c)) (weights-most c);
+  «low_len» = conf-most (partsOf c);
+  «mode_bits» = mode-bits-most c;
+  «weight_len» = cost-le (weightRange c) _ (omega (arith, range-most c)) (weights-most c);
 }
 
-pub small-of : (c : ℕ) (k : Config) → k ≡ configOf c → Small k
+pub small-of : (c : ℕ) (k : Config) → k ≡ configOf c → ConfigBounds k
 small-of c k e = rw e (small c)
 
 -- ---- the partitions, as the code reads them
@@ -204,12 +204,12 @@ unfolding valuesTo classIn
 one-values x = omega arith
 
 pub one-is : (c : ℕ) → partsOf c ≡ 1
-    → record { parts = 1; number = 0; base = 0; lowmodes = c / 8192 % 16; values = 2 * (c / 8192 % 16 / 4) + 2; lowlen = 17; modebits = 0 } ≡ partitionsOf c
+    → record { parts = 1; number = 0; base = 0; «low_modes» = c / 8192 % 16; values = 2 * (c / 8192 % 16 / 4) + 2; «low_len» = 17; «mode_bits» = 0 } ≡ partitionsOf c
 unfolding partitionsOf numberOf modeBase lowModes extraModeBits confLen bitsAt
 one-is c e = rw (e, one-values (c / 8192 % 16))
 
 pub several-is : (c parts n : ℕ) (m : ℕ) → parts ≡ partsOf c → 2 ≤ parts → n ≡ valuesTo (c / 8388608 % 4) (c / 33554432 % 16) parts → m ≡ extraModeBits parts (c / 8388608 % 4)
-    → record { parts = parts; number = c / 8192 % 1024; base = c / 8388608 % 4; lowmodes = c / 33554432 % 16; values = n; lowlen = 29; modebits = m } ≡ partitionsOf c
+    → record { parts = parts; number = c / 8192 % 1024; base = c / 8388608 % 4; «low_modes» = c / 33554432 % 16; values = n; «low_len» = 29; «mode_bits» = m } ≡ partitionsOf c
 unfolding partitionsOf numberOf modeBase lowModes confLen bitsAt
 several-is c parts n m e h d g = rw (d, g, e, ne-eqb (partsOf c) 1 (λ z. omega (arith, z, e)))
 

@@ -86,10 +86,10 @@ partitionsOf c = record {
   parts = partsOf c;
   number = numberOf c;
   base = modeBase c;
-  lowmodes = lowModes c;
+  «low_modes» = lowModes c;
   values = valuesTo (modeBase c) (lowModes c) (partsOf c);
-  lowlen = confLen (partsOf c);
-  modebits = extraModeBits (partsOf c) (modeBase c);
+  «low_len» = confLen (partsOf c);
+  «mode_bits» = extraModeBits (partsOf c) (modeBase c);
 }
 
 -- ---- all of it
@@ -97,14 +97,14 @@ unfoldable pub configOf : ℕ → Config
 configOf c = record {
   width = gridOf c .width;
   height = gridOf c .height;
-  range = weightRange c;
+  «weight_range» = weightRange c;
   planes = planesOf c;
   parts = partitionsOf c .parts;
   number = partitionsOf c .number;
   base = partitionsOf c .base;
-  lowmodes = partitionsOf c .lowmodes;
+  «low_modes» = partitionsOf c .«low_modes»;
   values = partitionsOf c .values;
-  lowlen = partitionsOf c .lowlen;
-  modebits = partitionsOf c .modebits;
-  weightlen = cost (weightRange c) (gridOf c .width * gridOf c .height * planesOf c);
+  «low_len» = partitionsOf c .«low_len»;
+  «mode_bits» = partitionsOf c .«mode_bits»;
+  «weight_len» = cost (weightRange c) (gridOf c .width * gridOf c .height * planesOf c);
 }

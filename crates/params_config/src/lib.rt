@@ -16,10 +16,10 @@ pub struct Partitions {
     pub parts: usize,
     pub number: usize,
     pub base: usize,
-    pub lowmodes: usize,
+    pub low_modes: usize,
     pub values: usize,
-    pub lowlen: usize,
-    pub modebits: usize,
+    pub low_len: usize,
+    pub mode_bits: usize,
 }
 
 // What the low configuration says of a block whose mode is not reserved. The base and the low modes are the endpoint modes as they
@@ -27,16 +27,16 @@ pub struct Partitions {
 pub struct Config {
     pub width: usize,
     pub height: usize,
-    pub range: usize,
+    pub weight_range: usize,
     pub planes: usize,
     pub parts: usize,
     pub number: usize,
     pub base: usize,
-    pub lowmodes: usize,
+    pub low_modes: usize,
     pub values: usize,
-    pub lowlen: usize,
-    pub modebits: usize,
-    pub weightlen: usize,
+    pub low_len: usize,
+    pub mode_bits: usize,
+    pub weight_len: usize,
 }
 
 // The bits of n values of the range of number q.
@@ -182,10 +182,10 @@ fn one_partition(c: usize) -> Partitions
         parts: 1,
         number: 0,
         base: 0,
-        lowmodes: mode,
+        low_modes: mode,
         values: 2 * (mode / 4) + 2,
-        lowlen: 17,
-        modebits: 0,
+        low_len: 17,
+        mode_bits: 0,
     }
 }
 
@@ -194,15 +194,15 @@ fn several_partitions(c: usize, parts: usize) -> Partitions
     ensures { λ r. ⌜ r ≡ partitionsOf c ⌝ }
 {
     let base = c / 8388608 % 4;
-    let lowmodes = c / 33554432 % 16;
+    let low_modes = c / 33554432 % 16;
     Partitions {
         parts,
         number: c / 8192 % 1024,
         base,
-        lowmodes,
-        values: params_modes::values_of(parts, base, lowmodes),
-        lowlen: 29,
-        modebits: extra_mode_bits(parts, base),
+        low_modes,
+        values: params_modes::values_of(parts, base, low_modes),
+        low_len: 29,
+        mode_bits: extra_mode_bits(parts, base),
     }
 }
 
@@ -230,22 +230,22 @@ pub fn read_config(c: usize) -> Config
     ensures { λ r. ⌜ r ≡ configOf c ⌝ }
 {
     let g = grid_of(c);
-    let range = r_of(c) - 2 + 6 * h_of(c);
+    let weight_range = r_of(c) - 2 + 6 * h_of(c);
     let planes = 1 + d_of(c);
     let p = read_partitions(c);
     let weights = weights_of(g, planes);
     Config {
         width: g.width,
         height: g.height,
-        range,
+        weight_range,
         planes,
         parts: p.parts,
         number: p.number,
         base: p.base,
-        lowmodes: p.lowmodes,
+        low_modes: p.low_modes,
         values: p.values,
-        lowlen: p.lowlen,
-        modebits: p.modebits,
-        weightlen: range_bits(range, weights),
+        low_len: p.low_len,
+        mode_bits: p.mode_bits,
+        weight_len: range_bits(weight_range, weights),
     }
 }

@@ -36,14 +36,14 @@ void-low v = rw (low-bits-are v 0 9 (omega arith))
 
 -- ---- locality
 -- two blocks have the same bits from s to s + n
-abbrev pub Same : ℕ → ℕ → ℕ → ℕ → Type 0
-Same v w s n = (k : ℕ) → s ≤ k → k < s + n → bitsAt v k 1 ≡ bitsAt w k 1
+abbrev pub SameBits : ℕ → ℕ → ℕ → ℕ → Type 0
+SameBits v w s n = (k : ℕ) → s ≤ k → k < s + n → bitsAt v k 1 ≡ bitsAt w k 1
 
-pub low-same : (v w : ℕ) → Same v w 0 (confLen (bitsAt (lowOf v) 11 2 + 1)) → lowOf v ≡ lowOf w
+pub low-same : (v w : ℕ) → SameBits v w 0 (confLen (bitsAt (lowOf v) 11 2 + 1)) → lowOf v ≡ lowOf w
 unfolding lowOf
 low-same v w s =
     let p = bitsAt v 11 2 + 1 in
-    let s′ : Same v w 0 (confLen p) = rw (low-bits-are v 11 2 (omega arith)) at s in
+    let s′ : SameBits v w 0 (confLen p) = rw (low-bits-are v 11 2 (omega arith)) at s in
     let e : bitsAt v 11 2 ≡ bitsAt w 11 2 = same-bits v w 11 2 (λ k a b. s′ k (omega arith) (omega (arith, conf-least p))) in
     same-bits v w 0 (confLen p) s′ ∙ ap (λ (x : ℕ). bitsAt w 0 (confLen (x + 1))) e
 

@@ -19,19 +19,19 @@ unfoldable pub legalMap : Config → BlockMap
 legalMap k = record {
   answer = legal;
   top = topOf (endRange k);
-  lowat = 0;
-  lowlen = k .lowlen;
-  endat = k .lowlen;
-  endlen = cost (endRange k) (k .values);
-  extraat = extraAt k;
-  extralen = extraLen k;
-  weightat = 128 - k .weightlen;
-  weightlen = k .weightlen;
+  «low_at» = 0;
+  «low_len» = k .«low_len»;
+  «end_at» = k .«low_len»;
+  «end_len» = cost (endRange k) (k .values);
+  «extra_at» = extraAt k;
+  «extra_len» = extraLen k;
+  «weight_at» = 128 - k .«weight_len»;
+  «weight_len» = k .«weight_len»;
 }
 
 -- of any other answer: all its numbers are 0
 unfoldable pub noMap : ℕ → BlockMap
-noMap a = record { answer = a; top = 0; lowat = 0; lowlen = 0; endat = 0; endlen = 0; extraat = 0; extralen = 0; weightat = 0; weightlen = 0 }
+noMap a = record { answer = a; top = 0; «low_at» = 0; «low_len» = 0; «end_at» = 0; «end_len» = 0; «extra_at» = 0; «extra_len» = 0; «weight_at» = 0; «weight_len» = 0 }
 
 -- of a block with the fields t at the footprint f
 unfoldable pub mapIn : Fields → Footprint → BlockMap

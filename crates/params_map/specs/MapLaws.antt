@@ -11,7 +11,7 @@ use Rattle.bits.specs.Bits.{bitsAt}
 use Rattle.bits.specs.BitLaws.{same-bits}
 use Rattle.footprint.specs.declared.Footprint.{Footprint}
 use Rattle.params_low.specs.Low.{isVoid, confLen, lowOf}
-use Rattle.params_low.specs.LowLaws.{Same, void-low, low-same}
+use Rattle.params_low.specs.LowLaws.{SameBits, void-low, low-same}
 use Rattle.params_config.specs.Config.{isReserved, partsOf, partitionsOf, configOf}
 use Rattle.params_config.specs.declared.Config.{Config}
 use Rattle.params_rules.specs.Rules.{verdict}
@@ -55,11 +55,11 @@ out-legal v f c a k r w s q i j m n o p z g =
 
 -- ---- the fields of a legal block stand one after the other, within its 128 bits
 pub record InOrder (m : BlockMap) : Type 0 where
-  pub first : m .lowat ≡ 0
-  pub ends : m .lowlen ≤ m .endat
-  pub extra : m .endat + m .endlen ≤ m .extraat
-  pub weights : m .extraat + m .extralen ≡ m .weightat
-  pub last : m .weightat + m .weightlen ≡ 128
+  pub first : m .«low_at» ≡ 0
+  pub ends : m .«low_len» ≤ m .«end_at»
+  pub extra : m .«end_at» + m .«end_len» ≤ m .«extra_at»
+  pub weights : m .«extra_at» + m .«extra_len» ≡ m .«weight_at»
+  pub last : m .«weight_at» + m .«weight_len» ≡ 128
 
 pub in-order : (v : ℕ) (f : Footprint) → mapOf v f .answer ≡ 0 → InOrder (mapOf v f)
 unfolding legalMap
@@ -70,21 +70,21 @@ in-order v f e =
     rw (map-legal (fieldsOf v) f a)
     (record { first = refl; ends = omega arith; extra = omega (arith, w .fits); weights = omega (arith, w .fits); last = omega (arith, l .most) })
 
-abbrev pub Inside : ℕ → ℕ → ℕ → Type 0
-Inside s n k = (s ≤ k) × (k < s + n)
+abbrev pub InField : ℕ → ℕ → ℕ → Type 0
+InField s n k = (s ≤ k) × (k < s + n)
 
 -- bit k stands in a field of the map
 abbrev pub Mapped : BlockMap → ℕ → Type 0
-Mapped m k = Inside (m .lowat) (m .lowlen) k ⊎ (Inside (m .endat) (m .endlen) k ⊎ (Inside (m .extraat) (m .extralen) k ⊎ Inside (m .weightat) (m .weightlen) k))
+Mapped m k = InField (m .«low_at») (m .«low_len») k ⊎ (InField (m .«end_at») (m .«end_len») k ⊎ (InField (m .«extra_at») (m .«extra_len») k ⊎ InField (m .«weight_at») (m .«weight_len») k))
 
 -- no bit stands in two fields, and none past bit 127
 pub record Disjoint (m : BlockMap) (k : ℕ) : Type 0 where
-  pub low-ends : Inside (m .lowat) (m .lowlen) k → Inside (m .endat) (m .endlen) k → ⊥
-  pub low-extra : Inside (m .lowat) (m .lowlen) k → Inside (m .extraat) (m .extralen) k → ⊥
-  pub low-weights : Inside (m .lowat) (m .lowlen) k → Inside (m .weightat) (m .weightlen) k → ⊥
-  pub ends-extra : Inside (m .endat) (m .endlen) k → Inside (m .extraat) (m .extralen) k → ⊥
-  pub ends-weights : Inside (m .endat) (m .endlen) k → Inside (m .weightat) (m .weightlen) k → ⊥
-  pub extra-weights : Inside (m .extraat) (m .extralen) k → Inside (m .weightat) (m .weightlen) k → ⊥
+  pub low-ends : InField (m .«low_at») (m .«low_len») k → InField (m .«end_at») (m .«end_len») k → ⊥
+  pub low-extra : InField (m .«low_at») (m .«low_len») k → InField (m .«extra_at») (m .«extra_len») k → ⊥
+  pub low-weights : InField (m .«low_at») (m .«low_len») k → InField (m .«weight_at») (m .«weight_len») k → ⊥
+  pub ends-extra : InField (m .«end_at») (m .«end_len») k → InField (m .«extra_at») (m .«extra_len») k → ⊥
+  pub ends-weights : InField (m .«end_at») (m .«end_len») k → InField (m .«weight_at») (m .«weight_len») k → ⊥
+  pub extra-weights : InField (m .«extra_at») (m .«extra_len») k → InField (m .«weight_at») (m .«weight_len») k → ⊥
   pub within : Mapped m k → k < 128
 
 pub disjoint : (v : ℕ) (f : Footprint) (k : ℕ) → mapOf v f .answer ≡ 0 → Disjoint (mapOf v f) k
@@ -104,20 +104,20 @@ disjoint v f k e =
 -- ---- locality: whatever stands at the unmapped bits, the fields are the same
 -- two blocks have the same bits at every mapped bit
 pub record SameMapped (m : BlockMap) (v w : ℕ) : Type 0 where
-  pub low : Same v w (m .lowat) (m .lowlen)
-  pub ends : Same v w (m .endat) (m .endlen)
-  pub extra : Same v w (m .extraat) (m .extralen)
-  pub weights : Same v w (m .weightat) (m .weightlen)
+  pub low : SameBits v w (m .«low_at») (m .«low_len»)
+  pub ends : SameBits v w (m .«end_at») (m .«end_len»)
+  pub extra : SameBits v w (m .«extra_at») (m .«extra_len»)
+  pub weights : SameBits v w (m .«weight_at») (m .«weight_len»)
 
-low-at-is : (c : ℕ) → legalMap (configOf c) .lowat ≡ 0
+low-at-is : (c : ℕ) → legalMap (configOf c) .«low_at» ≡ 0
 unfolding legalMap
 low-at-is c = refl
 
-low-len-is : (c : ℕ) → legalMap (configOf c) .lowlen ≡ confLen (bitsAt c 11 2 + 1)
+low-len-is : (c : ℕ) → legalMap (configOf c) .«low_len» ≡ confLen (bitsAt c 11 2 + 1)
 unfolding legalMap configOf partitionsOf partsOf
 low-len-is c = refl
 
-extra-field-is : (c v : ℕ) → bitsAt v (legalMap (configOf c) .extraat) (legalMap (configOf c) .extralen) ≡ extraIn (configOf c) v
+extra-field-is : (c v : ℕ) → bitsAt v (legalMap (configOf c) .«extra_at») (legalMap (configOf c) .«extra_len») ≡ extraIn (configOf c) v
 unfolding legalMap
 extra-field-is c v = refl
 
@@ -126,14 +126,14 @@ local v w h s =
     let m = legalMap (configOf (lowOf v)) in
     let l : lowOf v ≡ lowOf w = low-same v w (rw (low-at-is (lowOf v), low-len-is (lowOf v)) at (s .low)) in
     let x : extraIn (configOf (lowOf v)) v ≡ extraIn (configOf (lowOf v)) w =
-    sym (extra-field-is (lowOf v) v) ∙ same-bits v w (m .extraat) (m .extralen) (s .extra) ∙ extra-field-is (lowOf v) w in
+    sym (extra-field-is (lowOf v) v) ∙ same-bits v w (m .«extra_at») (m .«extra_len») (s .extra) ∙ extra-field-is (lowOf v) w in
     fields-same v w h l (x ∙ ap (λ (c : ℕ). extraIn (configOf c) w) l)
 
 -- and so are the numbers of the endpoints and of the weights
 pub record SameBlock (v w : ℕ) (m : BlockMap) : Type 0 where
   pub fields : fieldsOf v ≡ fieldsOf w
-  pub ends : bitsAt v (m .endat) (m .endlen) ≡ bitsAt w (m .endat) (m .endlen)
-  pub weights : bitsAt v (m .weightat) (m .weightlen) ≡ bitsAt w (m .weightat) (m .weightlen)
+  pub ends : bitsAt v (m .«end_at») (m .«end_len») ≡ bitsAt w (m .«end_at») (m .«end_len»)
+  pub weights : bitsAt v (m .«weight_at») (m .«weight_len») ≡ bitsAt w (m .«weight_at») (m .«weight_len»)
 
 pub unmapped : (v w : ℕ) (f : Footprint) → mapOf v f .answer ≡ 0 → ((k : ℕ) → Mapped (mapOf v f) k → bitsAt v k 1 ≡ bitsAt w k 1) → SameBlock v w (mapOf v f)
 unmapped v w f e h =
@@ -148,6 +148,6 @@ unmapped v w f e h =
     let n : isVoid v ≡ false = sym (void-low v) ∙ ap isVoid (sym (low-is v)) ∙ ordinary (fieldsOf v) f a .void in
     record {
       fields = local v w n (rw (map-legal (fieldsOf v) f a, low-is v) at s);
-      ends = same-bits v w (m .endat) (m .endlen) (s .ends);
-      weights = same-bits v w (m .weightat) (m .weightlen) (s .weights);
+      ends = same-bits v w (m .«end_at») (m .«end_len») (s .ends);
+      weights = same-bits v w (m .«weight_at») (m .«weight_len») (s .weights);
     }

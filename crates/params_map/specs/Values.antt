@@ -16,7 +16,7 @@ use Rattle.params_room.specs.Room.{widest}
 use Rattle.params_map.specs.Map.{legalMap, noMap, mapIn, mapOf}
 
 pub record Values : Type 0 where
-  pub P2 : mapOf (bytes 16 p1) (footprint 4 4) ≡ record { answer = 0; top = 255; lowat = 0; lowlen = 17; endat = 17; endlen = 16; extraat = 96; extralen = 0; weightat = 96; weightlen = 32 }
+  pub P2 : mapOf (bytes 16 p1) (footprint 4 4) ≡ record { answer = 0; top = 255; «low_at» = 0; «low_len» = 17; «end_at» = 17; «end_len» = 16; «extra_at» = 96; «extra_len» = 0; «weight_at» = 96; «weight_len» = 32 }
   pub P2-FF : mapOf (bytes 16 p2) (footprint 4 4) ≡ mapOf (bytes 16 p1) (footprint 4 4)
 
 pub values : Values

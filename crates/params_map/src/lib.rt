@@ -8,21 +8,21 @@ ghost use Rattle.footprint.specs.Footprints.{mostWeights};
 ghost use Rattle.bits.specs.Blocks.{valueOf};
 ghost use Rattle.sequence_ranges.specs.Ranges.{topOf};
 ghost use Rattle.params_config.specs.Ranges.{cost};
-ghost use Rattle.params_room.specs.RoomLaws.{Given};
+ghost use Rattle.params_room.specs.RoomLaws.{LegalConfig};
 ghost use Rattle.params_map.specs.Map.{legalMap, noMap, mapOf};
 
 // The answer of a block and, where it is legal, start and length of each of its fields and the largest value of its endpoints' range.
 pub struct BlockMap {
     pub answer: usize,
     pub top: usize,
-    pub lowat: usize,
-    pub lowlen: usize,
-    pub endat: usize,
-    pub endlen: usize,
-    pub extraat: usize,
-    pub extralen: usize,
-    pub weightat: usize,
-    pub weightlen: usize,
+    pub low_at: usize,
+    pub low_len: usize,
+    pub end_at: usize,
+    pub end_len: usize,
+    pub extra_at: usize,
+    pub extra_len: usize,
+    pub weight_at: usize,
+    pub weight_len: usize,
 }
 
 // The largest value of the range of number q.
@@ -54,23 +54,23 @@ fn range_bits(q: usize, n: usize) -> usize
 
 // The map of a legal block: k is what its low configuration says.
 fn legal_map(k: Config) -> BlockMap
-    requires { ⌜ Given k ⌝ }
+    requires { ⌜ LegalConfig k ⌝ }
     ensures { λ r. ⌜ r ≡ legalMap k ⌝ }
 {
     let range = params_room::end_range(k);
-    let extra = k.modebits + 2 * (k.planes - 1);
-    let weight = k.weightlen;
+    let extra = k.mode_bits + 2 * (k.planes - 1);
+    let weight = k.weight_len;
     BlockMap {
         answer: answers::LEGAL,
         top: top_of(range),
-        lowat: 0,
-        lowlen: k.lowlen,
-        endat: k.lowlen,
-        endlen: range_bits(range, k.values),
-        extraat: 128 - (weight + extra),
-        extralen: extra,
-        weightat: 128 - weight,
-        weightlen: weight,
+        low_at: 0,
+        low_len: k.low_len,
+        end_at: k.low_len,
+        end_len: range_bits(range, k.values),
+        extra_at: 128 - (weight + extra),
+        extra_len: extra,
+        weight_at: 128 - weight,
+        weight_len: weight,
     }
 }
 
@@ -81,14 +81,14 @@ pub fn no_map(answer: usize) -> BlockMap
     BlockMap {
         answer,
         top: 0,
-        lowat: 0,
-        lowlen: 0,
-        endat: 0,
-        endlen: 0,
-        extraat: 0,
-        extralen: 0,
-        weightat: 0,
-        weightlen: 0,
+        low_at: 0,
+        low_len: 0,
+        end_at: 0,
+        end_len: 0,
+        extra_at: 0,
+        extra_len: 0,
+        weight_at: 0,
+        weight_len: 0,
     }
 }
 

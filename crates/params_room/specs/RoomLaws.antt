@@ -11,7 +11,7 @@ use Rattle.sequence_ranges.specs.Ranges.{totalOf}
 use Rattle.footprint.specs.declared.Footprint.{Footprint}
 use Rattle.params_config.specs.Ranges.{cost}
 use Rattle.params_config.specs.Config.{configOf}
-use Rattle.params_config.specs.Bounds.{Small, small}
+use Rattle.params_config.specs.Bounds.{ConfigBounds, small}
 use Rattle.params_config.specs.declared.Config.{Config}
 use Rattle.params_rules.specs.Rules.{used, verdict}
 use Rattle.params_rules.specs.RuleLaws.{Legal, verdict-legal}
@@ -52,15 +52,15 @@ pub range-is : (k : Config) (f : Footprint) → Legal k f → Widest 20 (k .valu
 range-is k f l = widest-is 16 (k .values) (used k) (omega (arith, cost-4 (k .values), l .room))
 
 -- what the code is given: small numbers, and room
-pub record Given (k : Config) : Type 0 where
-  pub small : Small k
+pub record LegalConfig (k : Config) : Type 0 where
+  pub small : ConfigBounds k
   pub roomy : Roomy (k .values) (128 - used k)
   pub room : used k ≤ 128
 
-pub given : (c : ℕ) (k : Config) (f : Footprint) (a : ℕ) → k ≡ configOf c → a ≡ verdict k f → a ≡ 0 → Given k
+pub given : (c : ℕ) (k : Config) (f : Footprint) (a : ℕ) → k ≡ configOf c → a ≡ verdict k f → a ≡ 0 → LegalConfig k
 given c k f a o e z =
     let l = verdict-legal k f (sym e ∙ z) in
-    let s : Small k = rw o (small c) in
+    let s : ConfigBounds k = rw o (small c) in
     record {
       small = s;
       roomy = record { even = s .pairs; least = s .pair; most = l .values; fits = omega (arith, l .room); block = omega arith };

@@ -5,7 +5,7 @@ ghost use Prim.Native.Nat.{_-_, _≤_, _<_};
 ghost use Rattle.params_rules.specs.Rules.{used};
 ghost use Rattle.params_room.specs.Room.{widest, endRange};
 ghost use Rattle.params_room.specs.Closed.{Roomy, inverseOf, wholeBits};
-ghost use Rattle.params_room.specs.RoomLaws.{Given};
+ghost use Rattle.params_room.specs.RoomLaws.{LegalConfig};
 
 // 65536 / n, rounded up, by which a division of a room by n is a product.
 fn inverse(n: usize) -> usize
@@ -53,15 +53,15 @@ fn widest_range(n: usize, room: usize) -> usize
 
 // All bits of a block but those of its endpoints.
 fn used_bits(k: Config) -> usize
-    requires { ⌜ Given k ⌝ }
+    requires { ⌜ LegalConfig k ⌝ }
     ensures { λ r. ⌜ r ≡ used k ⌝ }
 {
-    k.lowlen + (k.modebits + 2 * (k.planes - 1)) + k.weightlen
+    k.low_len + (k.mode_bits + 2 * (k.planes - 1)) + k.weight_len
 }
 
 // The range of the endpoint values.
 pub fn end_range(k: Config) -> usize
-    requires { ⌜ Given k ⌝ }
+    requires { ⌜ LegalConfig k ⌝ }
     ensures { λ r. ⌜ (r ≡ endRange k) × (r < 21) ⌝ }
 {
     widest_range(k.values, 128 - used_bits(k))

@@ -24,8 +24,8 @@ pub record Legal (k : Config) (f : Footprint) : Type 0 where
   pub wide : k .width ≤ f .width
   pub high : k .height ≤ f .height
   pub few : weights k ≤ 64
-  pub least : 24 ≤ k .weightlen
-  pub most : k .weightlen ≤ 96
+  pub least : 24 ≤ k .«weight_len»
+  pub most : k .«weight_len» ≤ 96
   pub plane : eqb (k .planes) 2 && eqb (k .parts) 4 ≡ false
   pub values : k .values ≤ 18
   pub room : (13 * k .values + 4) / 5 + used k ≤ 128
@@ -66,23 +66,23 @@ module _ (k : Config) (f : Footprint) where
   unfolding verdict
   on-many a b c = simp (le-ltb _ _ a, le-ltb _ _ b, lt-ltb _ _ c)
 
-  pub on-few : k .width ≤ f .width → k .height ≤ f .height → weights k ≤ 64 → k .weightlen < 24 → 13 ≡ verdict k f
+  pub on-few : k .width ≤ f .width → k .height ≤ f .height → weights k ≤ 64 → k .«weight_len» < 24 → 13 ≡ verdict k f
   unfolding verdict
   on-few a b c d = simp (le-ltb _ _ a, le-ltb _ _ b, le-ltb _ _ c, lt-ltb _ _ d)
 
-  pub on-long : k .width ≤ f .width → k .height ≤ f .height → weights k ≤ 64 → 24 ≤ k .weightlen → 96 < k .weightlen → 13 ≡ verdict k f
+  pub on-long : k .width ≤ f .width → k .height ≤ f .height → weights k ≤ 64 → 24 ≤ k .«weight_len» → 96 < k .«weight_len» → 13 ≡ verdict k f
   unfolding verdict
   on-long a b c d e = simp (le-ltb _ _ a, le-ltb _ _ b, le-ltb _ _ c, le-ltb _ _ d, lt-ltb _ _ e)
 
-  pub on-planes : k .width ≤ f .width → k .height ≤ f .height → weights k ≤ 64 → 24 ≤ k .weightlen → k .weightlen ≤ 96 → k .planes ≡ 2 → k .parts ≡ 4 → 14 ≡ verdict k f
+  pub on-planes : k .width ≤ f .width → k .height ≤ f .height → weights k ≤ 64 → 24 ≤ k .«weight_len» → k .«weight_len» ≤ 96 → k .planes ≡ 2 → k .parts ≡ 4 → 14 ≡ verdict k f
   unfolding verdict
   on-planes a b c d e p g = simp (le-ltb _ _ a, le-ltb _ _ b, le-ltb _ _ c, le-ltb _ _ d, le-ltb _ _ e, eq-eqb _ _ p, eq-eqb _ _ g)
 
-  pub on-ends : (r : ℕ) → k .width ≤ f .width → k .height ≤ f .height → weights k ≤ 64 → 24 ≤ k .weightlen → k .weightlen ≤ 96 → (k .planes ≡ 2 → ⊥) → r ≡ endVerdict k → r ≡ verdict k f
+  pub on-ends : (r : ℕ) → k .width ≤ f .width → k .height ≤ f .height → weights k ≤ 64 → 24 ≤ k .«weight_len» → k .«weight_len» ≤ 96 → (k .planes ≡ 2 → ⊥) → r ≡ endVerdict k → r ≡ verdict k f
   unfolding verdict
   on-ends r a b c d e p g = simp (le-ltb _ _ a, le-ltb _ _ b, le-ltb _ _ c, le-ltb _ _ d, le-ltb _ _ e, ne-eqb _ _ p) g
 
-  pub on-ends-dual : (r : ℕ) → k .width ≤ f .width → k .height ≤ f .height → weights k ≤ 64 → 24 ≤ k .weightlen → k .weightlen ≤ 96 → k .planes ≡ 2 → (k .parts ≡ 4 → ⊥) → r ≡ endVerdict k → r ≡ verdict k f
+  pub on-ends-dual : (r : ℕ) → k .width ≤ f .width → k .height ≤ f .height → weights k ≤ 64 → 24 ≤ k .«weight_len» → k .«weight_len» ≤ 96 → k .planes ≡ 2 → (k .parts ≡ 4 → ⊥) → r ≡ endVerdict k → r ≡ verdict k f
   unfolding verdict
   on-ends-dual r a b c d e p i g = simp (le-ltb _ _ a, le-ltb _ _ b, le-ltb _ _ c, le-ltb _ _ d, le-ltb _ _ e, eq-eqb _ _ p, ne-eqb _ _ i) g
 
@@ -97,8 +97,8 @@ not-1 k f =
     neither (ltb (f .width) (k .width)) 11 _ (λ e. omega arith)
     (neither (ltb (f .height) (k .height)) 11 _ (λ e. omega arith)
     (neither (ltb 64 (weights k)) 12 _ (λ e. omega arith)
-    (neither (ltb (k .weightlen) 24) 13 _ (λ e. omega arith)
-    (neither (ltb 96 (k .weightlen)) 13 _ (λ e. omega arith)
+    (neither (ltb (k .«weight_len») 24) 13 _ (λ e. omega arith)
+    (neither (ltb 96 (k .«weight_len»)) 13 _ (λ e. omega arith)
     (neither (eqb (k .planes) 2 && eqb (k .parts) 4) 14 _ (λ e. omega arith)
     (neither (ltb 18 (k .values)) 15 _ (λ e. omega arith)
     (neither (ltb 128 ((13 * k .values + 4) / 5 + used k)) 16 0 (λ e. omega arith) (λ e. omega arith))))))))
@@ -114,6 +114,6 @@ verdict-lt k f =
     choice (ltb (f .width) (k .width)) 11 _ (omega arith)
     (choice (ltb (f .height) (k .height)) 11 _ (omega arith)
     (choice (ltb 64 (weights k)) 12 _ (omega arith)
-    (choice (ltb (k .weightlen) 24) 13 _ (omega arith)
-    (choice (ltb 96 (k .weightlen)) 13 _ (omega arith)
+    (choice (ltb (k .«weight_len») 24) 13 _ (omega arith)
+    (choice (ltb 96 (k .«weight_len»)) 13 _ (omega arith)
     (choice (eqb (k .planes) 2 && eqb (k .parts) 4) 14 _ (omega arith) (end-lt k))))))

@@ -9,14 +9,14 @@ use Rattle.params_config.specs.declared.Config.{Config}
 
 -- the extra field: mode bits below the weights, and two for the channel of the second plane below those
 abbrev pub extraLen : Config → ℕ
-extraLen k = k .modebits + 2 * (k .planes - 1)
+extraLen k = k .«mode_bits» + 2 * (k .planes - 1)
 
 abbrev pub extraAt : Config → ℕ
-extraAt k = 128 - (k .weightlen + extraLen k)
+extraAt k = 128 - (k .«weight_len» + extraLen k)
 
 -- all bits but the endpoints'. The room, 128 less these, may be negative: nothing is subtracted
 abbrev pub used : Config → ℕ
-used k = k .lowlen + extraLen k + k .weightlen
+used k = k .«low_len» + extraLen k + k .«weight_len»
 
 abbrev pub weights : Config → ℕ
 weights k = k .width * k .height * k .planes
@@ -34,7 +34,7 @@ verdict k f =
     cond (ltb (f .width) (k .width)) gridTooLarge
     (cond (ltb (f .height) (k .height)) gridTooLarge
     (cond (ltb 64 (weights k)) tooManyWeights
-    (cond (ltb (k .weightlen) 24) weightBits
-    (cond (ltb 96 (k .weightlen)) weightBits
+    (cond (ltb (k .«weight_len») 24) weightBits
+    (cond (ltb 96 (k .«weight_len»)) weightBits
     (cond (eqb (k .planes) 2 && eqb (k .parts) 4) dualPlaneOfFour
     (endVerdict k))))))

@@ -2,26 +2,26 @@
 use footprint::Footprint;
 use params_config::Config;
 ghost use mathlib.Core.Path.{_≡_};
-ghost use Rattle.params_config.specs.Bounds.{Small};
+ghost use Rattle.params_config.specs.Bounds.{ConfigBounds};
 ghost use Rattle.params_rules.specs.Rules.{extraLen, used, endVerdict, verdict};
 
 fn extra_len(k: Config) -> usize
-    requires { ⌜ Small k ⌝ }
+    requires { ⌜ ConfigBounds k ⌝ }
     ensures { λ r. ⌜ r ≡ extraLen k ⌝ }
 {
-    k.modebits + 2 * (k.planes - 1)
+    k.mode_bits + 2 * (k.planes - 1)
 }
 
 fn used_bits(k: Config) -> usize
-    requires { ⌜ Small k ⌝ }
+    requires { ⌜ ConfigBounds k ⌝ }
     ensures { λ r. ⌜ r ≡ used k ⌝ }
 {
-    k.lowlen + extra_len(k) + k.weightlen
+    k.low_len + extra_len(k) + k.weight_len
 }
 
 // Rules 15 and 16.
 fn judge_ends(k: Config) -> usize
-    requires { ⌜ Small k ⌝ }
+    requires { ⌜ ConfigBounds k ⌝ }
     ensures { λ r. ⌜ r ≡ endVerdict k ⌝ }
 {
     if 18 < k.values {
@@ -35,7 +35,7 @@ fn judge_ends(k: Config) -> usize
 
 // Rules 11 to 16: the first that what k says breaks at the footprint f, and LEGAL if it breaks none.
 pub fn judge(k: Config, f: Footprint) -> usize
-    requires { ⌜ Small k ⌝ }
+    requires { ⌜ ConfigBounds k ⌝ }
     ensures { λ r. ⌜ r ≡ verdict k f ⌝ }
 {
     if f.width < k.width {
@@ -47,10 +47,10 @@ pub fn judge(k: Config, f: Footprint) -> usize
     if 64 < k.width * k.height * k.planes {
         return answers::TOO_MANY_WEIGHTS;
     }
-    if k.weightlen < 24 {
+    if k.weight_len < 24 {
         return answers::WEIGHT_BITS;
     }
-    if 96 < k.weightlen {
+    if 96 < k.weight_len {
         return answers::WEIGHT_BITS;
     }
     if k.planes == 2 {

@@ -1,1 +1,1 @@
-pub mod Encoded
+pub mod ValuesIn

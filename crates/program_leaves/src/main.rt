@@ -21,15 +21,15 @@ ghost use Rattle.sequence_ranges.specs.Ranges.{rangeOf, most};
 ghost use Rattle.endpoints.specs.Endpoints.{countTo};
 ghost use Rattle.footprint.specs.Sides.{Sides};
 ghost use Rattle.weights_grid.specs.Grids.{countOf, Fits};
-ghost use Rattle.program_leaves.specs.Encoded.{Encoded, Inside};
+ghost use Rattle.program_leaves.specs.ValuesIn.{ValuesIn, GridInside};
 
-fn wide(x: u8) -> usize
+fn usize_of(x: u8) -> usize
     ensures { λ r. ⌜ (r ≡ x) × (r < 256) ⌝ }
 {
     x as usize
 }
 
-fn long(x: u16) -> usize {
+fn usize_of_entry(x: u16) -> usize {
     x as usize
 }
 
@@ -38,7 +38,7 @@ fn at(ask: &[u8; 32], i: usize) -> usize
     requires { ⌜ i < 32 ⌝ }
     ensures { λ r. ⌜ r < 256 ⌝ }
 {
-    wide(ask[i])
+    usize_of(ask[i])
 }
 
 // Two numbers of a request as one, the low byte first.
@@ -100,9 +100,9 @@ fn reply_tables(out: &mut [u8; 288], ask: &[u8; 32]) {
     let rev = bits_reversal::reversal();
     let trits = sequence_ranges::trits();
     let quints = sequence_ranges::quints();
-    put(out, 0, wide(rev[i]));
-    put_pair(out, 1, long(trits[i]));
-    put_pair(out, 3, long(quints[i % 128]));
+    put(out, 0, usize_of(rev[i]));
+    put_pair(out, 1, usize_of_entry(trits[i]));
+    put_pair(out, 3, usize_of_entry(quints[i % 128]));
 }
 
 fn put_values(out: &mut [u8; 288], seq: &[u8; 72]) {
@@ -123,7 +123,7 @@ fn legal_range(q: usize) -> Range
 // n values of range q: upwards from a bit on, or downwards from the block's end.
 fn values_of(b: Block, q: usize, n: usize, offset: usize, down: bool) -> [u8; 72]
     requires { ⌜ (q < 21) × ((n ≤ 64) × (offset ≤ 128)) ⌝ }
-    ensures { λ r. ⌜ Encoded q n r ⌝ }
+    ensures { λ r. ⌜ ValuesIn q n r ⌝ }
 {
     let r = legal_range(q);
     let mut seq = [0u8; 72];
@@ -178,9 +178,9 @@ fn put_half(out: &mut [u8; 288], i: usize, h: u16)
 {
     put_u32(out, i, float_bits(half::fp16_ieee_to_fp32_value(h)));
     put_u32(out, i + 4, float_bits(half::half_times_255(h)));
-    put(out, i + 8, wide(half::f16_to_u8(h)));
+    put(out, i + 8, usize_of(half::f16_to_u8(h)));
     if h < 32768 {
-        put(out, i + 9, wide(half::hdr_to_u8(h)));
+        put(out, i + 9, usize_of(half::hdr_to_u8(h)));
     }
 }
 
@@ -197,13 +197,13 @@ fn reply_halves(out: &mut [u8; 288], ask: &[u8; 32]) {
 fn put_config(out: &mut [u8; 288], k: Config) {
     put(out, 1, k.width);
     put(out, 2, k.height);
-    put(out, 3, k.range);
+    put(out, 3, k.weight_range);
     put(out, 4, k.planes);
     put(out, 5, k.parts);
     put(out, 6, k.values);
-    put(out, 7, k.lowlen);
-    put(out, 8, k.modebits);
-    put(out, 9, k.weightlen);
+    put(out, 7, k.low_len);
+    put(out, 8, k.mode_bits);
+    put(out, 9, k.weight_len);
 }
 
 fn put_params(out: &mut [u8; 288], p: Params) {
@@ -212,23 +212,23 @@ fn put_params(out: &mut [u8; 288], p: Params) {
     put_config(out, k);
     put(out, 10, p.channel);
     let m = p.modes;
-    put(out, 11, wide(m[0]));
-    put(out, 12, wide(m[1]));
-    put(out, 13, wide(m[2]));
-    put(out, 14, wide(m[3]));
+    put(out, 11, usize_of(m[0]));
+    put(out, 12, usize_of(m[1]));
+    put(out, 13, usize_of(m[2]));
+    put(out, 14, usize_of(m[3]));
     put_pair(out, 15, k.number);
-    put(out, 17, p.range);
+    put(out, 17, p.endpoint_range);
 }
 
 fn put_map(out: &mut [u8; 288], m: BlockMap) {
     put(out, 18, m.top);
-    put(out, 19, m.lowlen);
-    put(out, 20, m.endat);
-    put(out, 21, m.endlen);
-    put(out, 22, m.extraat);
-    put(out, 23, m.extralen);
-    put(out, 24, m.weightat);
-    put(out, 25, m.weightlen);
+    put(out, 19, m.low_len);
+    put(out, 20, m.end_at);
+    put(out, 21, m.end_len);
+    put(out, 22, m.extra_at);
+    put(out, 23, m.extra_len);
+    put(out, 24, m.weight_at);
+    put(out, 25, m.weight_len);
 }
 
 fn footprint_at(ask: &[u8; 32], i: usize) -> Footprint
@@ -265,10 +265,10 @@ fn mark_number(m: Mark) -> usize {
 fn put_end(out: &mut [u8; 288], i: usize, r: u16, g: u16, b: u16, a: u16)
     requires { ⌜ i < 280 ⌝ }
 {
-    put_pair(out, i, long(r));
-    put_pair(out, i + 2, long(g));
-    put_pair(out, i + 4, long(b));
-    put_pair(out, i + 6, long(a));
+    put_pair(out, i, usize_of_entry(r));
+    put_pair(out, i + 2, usize_of_entry(g));
+    put_pair(out, i + 4, usize_of_entry(b));
+    put_pair(out, i + 6, usize_of_entry(a));
 }
 
 fn put_endpoints(out: &mut [u8; 288], i: usize, e: Endpoints)
@@ -290,7 +290,7 @@ fn count_to(modes: [u8; 4], parts: usize) -> usize
     let mut n = 0;
     let mut i = 0;
     while i < parts {
-        n += 2 * (wide(modes[i]) / 4 + 1);
+        n += 2 * (usize_of(modes[i]) / 4 + 1);
         i += 1;
     }
     n
@@ -376,7 +376,7 @@ fn put_grid(out: &mut [u8; 288], g: Grid, n: usize, q: usize, b: Block)
 }
 
 fn put_planes(out: &mut [u8; 288], g: Grid, q: usize, b: Block)
-    requires { ⌜ Inside g × (q < 12) ⌝ }
+    requires { ⌜ GridInside g × (q < 12) ⌝ }
 {
     if g.planes == 0 {
         return;
@@ -426,10 +426,10 @@ fn reply_weights(out: &mut [u8; 288], ask: &[u8; 32]) {
     }
 }
 
-fn put_partition(out: &mut [u8; 288], map: &[u8; TEXELS]) {
+fn put_partition(out: &mut [u8; 288], partitions: &[u8; TEXELS]) {
     let mut i = 0;
     while i < TEXELS {
-        out[i] = map[i];
+        out[i] = partitions[i];
         i += 1;
     }
 }
@@ -464,7 +464,7 @@ fn ldr(v0: usize, v1: usize, w: usize) -> usize
     if 286 < v1 {
         return 0;
     }
-    wide(blend::select_color(v0 as u32, v1 as u32, w as u32))
+    usize_of(blend::select_color(v0 as u32, v1 as u32, w as u32))
 }
 
 fn ldr_byte(v0: usize, v1: usize, w: usize) -> usize
@@ -476,7 +476,7 @@ fn ldr_byte(v0: usize, v1: usize, w: usize) -> usize
     if 255 < v1 {
         return 0;
     }
-    long(blend::select_color_byte(v0 as u16, v1 as u16, w as u16))
+    usize_of_entry(blend::select_color_byte(v0 as u16, v1 as u16, w as u16))
 }
 
 fn hdr(v0: usize, v1: usize, w: usize) -> usize
@@ -488,7 +488,7 @@ fn hdr(v0: usize, v1: usize, w: usize) -> usize
     if 4095 < v1 {
         return 0;
     }
-    wide(blend::select_color_hdr(v0 as u32, v1 as u32, w as u32))
+    usize_of(blend::select_color_hdr(v0 as u32, v1 as u32, w as u32))
 }
 
 // The channels of two endpoints at all weights: LDR, the same in 16 bits, and HDR.

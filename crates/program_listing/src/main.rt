@@ -11,7 +11,7 @@ ghost use lib.ListN.{length};
 ghost use Rattle.program_text.specs.Text.{Placed};
 ghost use Rattle.program_listing.specs.Listing.{answerIn, wordsIn, recordLine};
 
-fn wide(x: u8) -> usize
+fn usize_of(x: u8) -> usize
     ensures { λ r. ⌜ r ≡ x ⌝ }
 {
     x as usize
@@ -25,8 +25,8 @@ fn answer_of(bytes: &[u8], words: &mut [u32]) -> usize
         return answers::BLOCK_LENGTH;
     }
     let f = Footprint {
-        width: wide(bytes[0]),
-        height: wide(bytes[1]),
+        width: usize_of(bytes[0]),
+        height: usize_of(bytes[1]),
     };
     block::decode_astc_block(&bytes[2..], f, words)
 }

@@ -12,7 +12,7 @@ ghost use lib.ListN.{length};
 ghost use Rattle.program_stored.specs.Stored.{answerIn};
 ghost use Rattle.program_replay.specs.Replay.{footprintIn, replayedIn};
 
-fn wide(x: u8) -> usize
+fn usize_of(x: u8) -> usize
     ensures { λ r. ⌜ (r ≡ x) × (r < 256) ⌝ }
 {
     x as usize
@@ -23,8 +23,8 @@ fn footprint_of(head: &[u8; 19]) -> Footprint
     ensures { λ r. ⌜ (r ≡ footprintIn (now (head .entry))) × ((r .width < 256) × (r .height < 256)) ⌝ }
 {
     Footprint {
-        width: wide(head[0]),
-        height: wide(head[1]),
+        width: usize_of(head[0]),
+        height: usize_of(head[1]),
     }
 }
 

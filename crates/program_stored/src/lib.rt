@@ -7,13 +7,13 @@ ghost use Prim.Native.Nat.{_<_};
 ghost use Rattle.footprint.specs.Footprints.{mostTexels};
 ghost use Rattle.program_stored.specs.Stored.{wordAt, storedWords, texelsOf, differsFrom, closedAt, countedIn, recordIn, answerIn};
 
-fn wide(x: u8) -> usize
+fn usize_of(x: u8) -> usize
     ensures { λ r. ⌜ (r ≡ x) × (r < 256) ⌝ }
 {
     x as usize
 }
 
-fn long(x: u8) -> u32
+fn u32_of(x: u8) -> u32
     ensures { λ r. ⌜ (r ≡ x) × (r < 256) ⌝ }
 {
     x as u32
@@ -25,10 +25,10 @@ fn word_at(stored: &[u8; 576], k: usize) -> u32
     ensures { λ r. ⌜ r ≡ wordAt (now (stored .entry)) k ⌝ }
 {
     let at = 4 * k;
-    long(stored[at])
-        + 256 * long(stored[at + 1])
-        + 0x1_0000 * long(stored[at + 2])
-        + 0x100_0000 * long(stored[at + 3])
+    u32_of(stored[at])
+        + 256 * u32_of(stored[at + 1])
+        + 0x1_0000 * u32_of(stored[at + 2])
+        + 0x100_0000 * u32_of(stored[at + 3])
 }
 
 // The words that are stored, 0 after the last.
@@ -48,14 +48,14 @@ fn stored_words(stored: &[u8; 576]) -> [u32; TEXELS]
 fn texels(head: &[u8; 19]) -> usize
     ensures { λ r. ⌜ r ≡ texelsOf (now (head .entry)) ⌝ }
 {
-    wide(head[0]) * wide(head[1])
+    usize_of(head[0]) * usize_of(head[1])
 }
 
 // Whether a decoder gave another answer than is stored, or other words in any place.
 fn differs(head: &[u8; 19], stored: &[u8; 576], answer: usize, words: &[u32; TEXELS]) -> bool
     ensures { λ r. ⌜ r ≡ differsFrom (now (head .entry)) (now (stored .entry)) answer (now (words .entry)) ⌝ }
 {
-    if answer != wide(head[2]) {
+    if answer != usize_of(head[2]) {
         return true;
     }
     let whole = stored_words(stored);
@@ -108,7 +108,7 @@ pub fn count_record(
 ) -> Tally
     ensures { λ r. ⌜ (r ≡ recordIn t (now (head .entry)) (now (stored .entry)) answer (now (words .entry))) × (now (answers .exit) ≡ answerIn (now (answers .entry)) (now (head .entry))) ⌝ }
 {
-    let stored_answer = wide(head[2]);
+    let stored_answer = usize_of(head[2]);
     answers[stored_answer] = program_counts::added(answers[stored_answer], 1);
     counted(t, texels(head), differs(head, stored, answer, words))
 }

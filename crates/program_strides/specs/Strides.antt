@@ -6,7 +6,7 @@ use Rattle.program_compare.specs.declared.Came.{Came}
 use Rattle.program_strides.specs.declared.Walk.{Walk}
 
 -- an image of at most 10 by 8 blocks and 1280 pixels
-pub record Small (c : Cursor) : Type 0 where
+pub record CursorBounds (c : Cursor) : Type 0 where
   pub width : c .shape .width ≤ 40
   pub height : c .shape .height ≤ 32
   pub bw : (4 ≤ c .shape .footprint .width) × (c .shape .footprint .width ≤ 12)

@@ -6,7 +6,7 @@ use program_compare::Came;
 use program_compare::MARKER;
 ghost use mathlib.Core.Path.{_≡_};
 ghost use Prim.Native.Nat.{_+_, _/_, _≤_};
-ghost use Rattle.program_strides.specs.Strides.{Small, cameOf};
+ghost use Rattle.program_strides.specs.Strides.{CursorBounds, cameOf};
 
 // The width of footprint f, of the fourteen in the order of their width and then of their height.
 fn block_width(f: usize) -> usize
@@ -65,7 +65,7 @@ fn height_at(s: usize, bh: usize) -> usize
 
 // The cursor before the first block of an image of footprint f and size s.
 fn start_of(f: usize, s: usize) -> image::Cursor
-    ensures { λ r. ⌜ Small r ⌝ }
+    ensures { λ r. ⌜ CursorBounds r ⌝ }
 {
     let footprint = Footprint {
         width: block_width(f),
@@ -88,7 +88,7 @@ fn along(n: usize, side: usize) -> usize
 }
 
 fn blocks_of(c: image::Cursor) -> usize
-    requires { ⌜ Small c ⌝ }
+    requires { ⌜ CursorBounds c ⌝ }
     ensures { λ r. ⌜ r ≤ 80 ⌝ }
 {
     let m = c.shape;
@@ -96,7 +96,7 @@ fn blocks_of(c: image::Cursor) -> usize
 }
 
 fn pixels_of(c: image::Cursor) -> usize
-    requires { ⌜ Small c ⌝ }
+    requires { ⌜ CursorBounds c ⌝ }
 {
     let m = c.shape;
     m.width * m.height
@@ -301,7 +301,7 @@ fn run(
     bad: usize,
     size: usize,
 ) -> Tally
-    requires { ⌜ Small start ⌝ }
+    requires { ⌜ CursorBounds start ⌝ }
 {
     let mut words = [MARKER; 1280];
     let blocks = blocks_of(start);
@@ -312,7 +312,7 @@ fn run(
 
 // Paints an image in steps of each size.
 fn run_all(t: Tally, start: image::Cursor, data: &[u8], whole: &[u32; 1280]) -> Tally
-    requires { ⌜ Small start ⌝ }
+    requires { ⌜ CursorBounds start ⌝ }
 {
     let m = start.shape;
     let bad = count_bad(data, m.footprint);
@@ -327,7 +327,7 @@ fn run_all(t: Tally, start: image::Cursor, data: &[u8], whole: &[u32; 1280]) -> 
 
 // Paints an image whole, and then in steps.
 fn compare(t: Tally, start: image::Cursor, data: &[u8]) -> Tally
-    requires { ⌜ Small start ⌝ }
+    requires { ⌜ CursorBounds start ⌝ }
 {
     let mut whole = [MARKER; 1280];
     let answer = image::decode_astc(data, start.shape, &mut whole);

@@ -14,20 +14,20 @@ use sequence_ranges::Range;
 // The sequence of n values that starts at a bit of the block, upwards, put into out, which is all 0.
 pub fn decode_intseq(
     out: &mut [u8; 72],
-    t: &[u16; 256],
-    q: &[u16; 128],
+    trits: &[u16; 256],
+    quints: &[u16; 128],
     block: Block,
     offset: usize,
     r: Range,
     n: usize,
 )
-    requires { ⌜ (now out ≡ replicate 72 0) × (now t ≡ tritTable) × (now q ≡ quintTable) × (r .bits ≤ most (r .kind)) × (n ≤ 64) × (offset ≤ 128) ⌝ }
+    requires { ⌜ (now out ≡ replicate 72 0) × (now trits ≡ tritTable) × (now quints ≡ quintTable) × (r .bits ≤ most (r .kind)) × (n ≤ 64) × (offset ≤ 128) ⌝ }
     ensures { λ _. ⌜ now (out .exit) ≡ valuesOf r (bitsAt (valueOf block) offset (totalOf r n)) n ⌝ }
 {
     sequence_values::decode(
         out,
-        t,
-        q,
+        trits,
+        quints,
         bits::cut(block, offset, sequence_ranges::total(r, n)),
         r,
         n,
@@ -37,15 +37,15 @@ pub fn decode_intseq(
 // The same, downwards from the block's end.
 pub fn decode_intseq_reverse(
     out: &mut [u8; 72],
-    rev: &[u8; 256],
-    t: &[u16; 256],
-    q: &[u16; 128],
+    reversal: &[u8; 256],
+    trits: &[u16; 256],
+    quints: &[u16; 128],
     block: Block,
     r: Range,
     n: usize,
 )
-    requires { ⌜ (now out ≡ replicate 72 0) × (now rev ≡ reversals) × (now t ≡ tritTable) × (now q ≡ quintTable) × (r .bits ≤ most (r .kind)) × (n ≤ 64) ⌝ }
+    requires { ⌜ (now out ≡ replicate 72 0) × (now reversal ≡ reversals) × (now trits ≡ tritTable) × (now quints ≡ quintTable) × (r .bits ≤ most (r .kind)) × (n ≤ 64) ⌝ }
     ensures { λ _. ⌜ now (out .exit) ≡ valuesOf r (bitsAt (reversed 128 (valueOf block)) 0 (totalOf r n)) n ⌝ }
 {
-    decode_intseq(out, t, q, bits_reversal::reverse(rev, block), 0, r, n)
+    decode_intseq(out, trits, quints, bits_reversal::reverse(reversal, block), 0, r, n)
 }

@@ -7,7 +7,7 @@ ghost use Rattle.sequence_ranges.specs.Digits.{packed, tritTable, quintTable};
 ghost use Rattle.sequence_groups.specs.Sequence.{digitsOf, groupFrom};
 use sequence_ranges::Kind;
 
-fn wide(x: u16) -> u64
+fn u64_of(x: u16) -> u64
     ensures { λ r. ⌜ r ≡ x ⌝ }
 {
     x as u64
@@ -15,8 +15,8 @@ fn wide(x: u16) -> u64
 
 // The digits of a group of five, upwards m0 t0 m1 t1 m2 t2 m3 t3 m4 t4, with b bits in each m, and 2, 2, 1, 2, 1 in
 // the t, which make a place in the table.
-fn trit_digits(t: &[u16; 256], b: usize, d: u64) -> u64
-    requires { ⌜ (now t ≡ tritTable) × (b ≤ 6) ⌝ }
+fn trit_digits(trits: &[u16; 256], b: usize, d: u64) -> u64
+    requires { ⌜ (now trits ≡ tritTable) × (b ≤ 6) ⌝ }
     ensures { λ r. ⌜ r ≡ packed (digitsOf Kind.Trits b d) ⌝ }
 {
     let mut m = d >> b;
@@ -29,12 +29,12 @@ fn trit_digits(t: &[u16; 256], b: usize, d: u64) -> u64
     x = x + m / 32 % 4 * 32;
     m = m >> b;
     x = x + m / 128 % 2 * 128;
-    wide(t[x as usize])
+    u64_of(trits[x as usize])
 }
 
 // The digits of a group of three: m0 t0 m1 t1 m2 t2, with 3, 2, 2 bits in the t.
-fn quint_digits(t: &[u16; 128], b: usize, d: u64) -> u64
-    requires { ⌜ (now t ≡ quintTable) × (b ≤ 5) ⌝ }
+fn quint_digits(quints: &[u16; 128], b: usize, d: u64) -> u64
+    requires { ⌜ (now quints ≡ quintTable) × (b ≤ 5) ⌝ }
     ensures { λ r. ⌜ r ≡ packed (digitsOf Kind.Quints b d) ⌝ }
 {
     let mut m = d >> b;
@@ -43,7 +43,7 @@ fn quint_digits(t: &[u16; 128], b: usize, d: u64) -> u64
     x = x + m / 8 % 4 * 8;
     m = m >> b;
     x = x + m / 32 % 4 * 32;
-    wide(t[x as usize])
+    u64_of(quints[x as usize])
 }
 
 // A value: the low digit of e above the low b bits of d.
@@ -55,11 +55,11 @@ fn value(e: u64, d: u64, b: usize) -> u8
 }
 
 // The five values of the group d.
-pub fn put_trits(out: &mut [u8; 72], i: usize, t: &[u16; 256], b: usize, d: u64)
-    requires { ⌜ (i ≤ 64) × (now t ≡ tritTable) × (b ≤ 6) ⌝ }
+pub fn put_trits(out: &mut [u8; 72], i: usize, trits: &[u16; 256], b: usize, d: u64)
+    requires { ⌜ (i ≤ 64) × (now trits ≡ tritTable) × (b ≤ 6) ⌝ }
     ensures { λ _. ⌜ now (out .exit) ≡ put (groupFrom (range Kind.Trits b) d i) i (i + 5) (now (out .entry)) ⌝ }
 {
-    let e = trit_digits(t, b, d);
+    let e = trit_digits(trits, b, d);
     let mut m = d;
     out[i] = value(e, m, b);
     m = m >> b;
@@ -73,11 +73,11 @@ pub fn put_trits(out: &mut [u8; 72], i: usize, t: &[u16; 256], b: usize, d: u64)
 }
 
 // The three values of the group d.
-pub fn put_quints(out: &mut [u8; 72], i: usize, t: &[u16; 128], b: usize, d: u64)
-    requires { ⌜ (i ≤ 64) × (now t ≡ quintTable) × (b ≤ 5) ⌝ }
+pub fn put_quints(out: &mut [u8; 72], i: usize, quints: &[u16; 128], b: usize, d: u64)
+    requires { ⌜ (i ≤ 64) × (now quints ≡ quintTable) × (b ≤ 5) ⌝ }
     ensures { λ _. ⌜ now (out .exit) ≡ put (groupFrom (range Kind.Quints b) d i) i (i + 3) (now (out .entry)) ⌝ }
 {
-    let e = quint_digits(t, b, d);
+    let e = quint_digits(quints, b, d);
     let mut m = d;
     out[i] = value(e, m, b);
     m = m >> b;

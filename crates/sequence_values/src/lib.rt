@@ -11,14 +11,14 @@ use sequence_ranges::Kind;
 use sequence_ranges::Range;
 
 // The n values of the sequence w, five at a time.
-fn decode_trits(out: &mut [u8; 72], t: &[u16; 256], w: Block, b: usize, n: usize)
-    requires { ⌜ (now out ≡ replicate 72 0) × (now t ≡ tritTable) × (b ≤ 6) × (n ≤ 64) ⌝ }
+fn decode_trits(out: &mut [u8; 72], trits: &[u16; 256], w: Block, b: usize, n: usize)
+    requires { ⌜ (now out ≡ replicate 72 0) × (now trits ≡ tritTable) × (b ≤ 6) × (n ≤ 64) ⌝ }
     ensures { λ _. ⌜ now (out .exit) ≡ valuesOf (range Kind.Trits b) (valueOf w) n ⌝ }
 {
     let mut s = w;
     let mut i = 0;
     while i < n {
-        sequence_groups::put_trits(out, i, t, b, s.lo);
+        sequence_groups::put_trits(out, i, trits, b, s.lo);
         s = bits::skip(s, 5 * b + 8);
         i += 5;
     }
@@ -26,14 +26,14 @@ fn decode_trits(out: &mut [u8; 72], t: &[u16; 256], w: Block, b: usize, n: usize
 }
 
 // The n values of the sequence w, three at a time.
-fn decode_quints(out: &mut [u8; 72], t: &[u16; 128], w: Block, b: usize, n: usize)
-    requires { ⌜ (now out ≡ replicate 72 0) × (now t ≡ quintTable) × (b ≤ 5) × (n ≤ 64) ⌝ }
+fn decode_quints(out: &mut [u8; 72], quints: &[u16; 128], w: Block, b: usize, n: usize)
+    requires { ⌜ (now out ≡ replicate 72 0) × (now quints ≡ quintTable) × (b ≤ 5) × (n ≤ 64) ⌝ }
     ensures { λ _. ⌜ now (out .exit) ≡ valuesOf (range Kind.Quints b) (valueOf w) n ⌝ }
 {
     let mut s = w;
     let mut i = 0;
     while i < n {
-        sequence_groups::put_quints(out, i, t, b, s.lo);
+        sequence_groups::put_quints(out, i, quints, b, s.lo);
         s = bits::skip(s, 3 * b + 7);
         i += 3;
     }
@@ -41,46 +41,46 @@ fn decode_quints(out: &mut [u8; 72], t: &[u16; 128], w: Block, b: usize, n: usiz
 }
 
 // The values with trits, by a number of bits that each arm knows: its shifts are by constants then, which are fewer instructions.
-fn decode_trits_by(out: &mut [u8; 72], t: &[u16; 256], w: Block, b: usize, n: usize)
-    requires { ⌜ (now out ≡ replicate 72 0) × (now t ≡ tritTable) × (b ≤ 6) × (n ≤ 64) ⌝ }
+fn decode_trits_by(out: &mut [u8; 72], trits: &[u16; 256], w: Block, b: usize, n: usize)
+    requires { ⌜ (now out ≡ replicate 72 0) × (now trits ≡ tritTable) × (b ≤ 6) × (n ≤ 64) ⌝ }
     ensures { λ _. ⌜ now (out .exit) ≡ valuesOf (range Kind.Trits b) (valueOf w) n ⌝ }
 {
     match b {
-        0 => decode_trits(out, t, w, 0, n),
-        1 => decode_trits(out, t, w, 1, n),
-        2 => decode_trits(out, t, w, 2, n),
-        3 => decode_trits(out, t, w, 3, n),
-        4 => decode_trits(out, t, w, 4, n),
-        5 => decode_trits(out, t, w, 5, n),
-        _ => decode_trits(out, t, w, 6, n),
+        0 => decode_trits(out, trits, w, 0, n),
+        1 => decode_trits(out, trits, w, 1, n),
+        2 => decode_trits(out, trits, w, 2, n),
+        3 => decode_trits(out, trits, w, 3, n),
+        4 => decode_trits(out, trits, w, 4, n),
+        5 => decode_trits(out, trits, w, 5, n),
+        _ => decode_trits(out, trits, w, 6, n),
     }
 }
 
 // The values with quints, by a number of bits that each arm knows.
-fn decode_quints_by(out: &mut [u8; 72], t: &[u16; 128], w: Block, b: usize, n: usize)
-    requires { ⌜ (now out ≡ replicate 72 0) × (now t ≡ quintTable) × (b ≤ 5) × (n ≤ 64) ⌝ }
+fn decode_quints_by(out: &mut [u8; 72], quints: &[u16; 128], w: Block, b: usize, n: usize)
+    requires { ⌜ (now out ≡ replicate 72 0) × (now quints ≡ quintTable) × (b ≤ 5) × (n ≤ 64) ⌝ }
     ensures { λ _. ⌜ now (out .exit) ≡ valuesOf (range Kind.Quints b) (valueOf w) n ⌝ }
 {
     match b {
-        0 => decode_quints(out, t, w, 0, n),
-        1 => decode_quints(out, t, w, 1, n),
-        2 => decode_quints(out, t, w, 2, n),
-        3 => decode_quints(out, t, w, 3, n),
-        4 => decode_quints(out, t, w, 4, n),
-        _ => decode_quints(out, t, w, 5, n),
+        0 => decode_quints(out, quints, w, 0, n),
+        1 => decode_quints(out, quints, w, 1, n),
+        2 => decode_quints(out, quints, w, 2, n),
+        3 => decode_quints(out, quints, w, 3, n),
+        4 => decode_quints(out, quints, w, 4, n),
+        _ => decode_quints(out, quints, w, 5, n),
     }
 }
 
 // The n values of the sequence w, put into out, which is all 0.
-pub fn decode(out: &mut [u8; 72], t: &[u16; 256], q: &[u16; 128], w: Block, r: Range, n: usize)
-    requires { ⌜ (now out ≡ replicate 72 0) × (now t ≡ tritTable) × (now q ≡ quintTable) × (r .bits ≤ most (r .kind)) × (n ≤ 64) ⌝ }
+pub fn decode(out: &mut [u8; 72], trits: &[u16; 256], quints: &[u16; 128], w: Block, r: Range, n: usize)
+    requires { ⌜ (now out ≡ replicate 72 0) × (now trits ≡ tritTable) × (now quints ≡ quintTable) × (r .bits ≤ most (r .kind)) × (n ≤ 64) ⌝ }
     ensures { λ _. ⌜ now (out .exit) ≡ valuesOf r (valueOf w) n ⌝ }
 {
     let k = r.kind;
     let b = r.bits;
     match k {
         Kind::Plain => sequence_plain::decode_plain_by(out, w, b, n),
-        Kind::Trits => decode_trits_by(out, t, w, b, n),
-        Kind::Quints => decode_quints_by(out, q, w, b, n),
+        Kind::Trits => decode_trits_by(out, trits, w, b, n),
+        Kind::Quints => decode_quints_by(out, quints, w, b, n),
     }
 }

@@ -1,5 +1,5 @@
 pub mod Texels
-pub mod Given
+pub mod PaintGiven
 pub mod Kinds
 pub mod PaintLaws
 pub mod KindLaws

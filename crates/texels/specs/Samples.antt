@@ -17,8 +17,8 @@ laneBy Hdr h = 32768 + h
 
 -- channel k of texel i
 unfoldable pub texelLane : List Endpoints → List ℕ → List ℕ → ℕ → ℕ → ℕ → ℕ → ℕ
-texelLane ends weights map planes channel i k =
-    let c = blendedAt ends weights map planes channel i k in
+texelLane ends weights partitions planes channel i k =
+    let c = blendedAt ends weights partitions planes channel i k in
     laneBy (c .mark) (c .value)
 
 -- the lanes s with those of one channel, f 0, f 1, .., to the next multiple of 8, from place `at` on

@@ -39,9 +39,9 @@ weightAt weights planes channel i k = getD weights (mostTexels * planeOf planes 
 abbrev pub blendedOf : Endpoints → ℕ → ℕ → Blended
 blendedOf e k w = record { mark = markOf e k; value = blendBy (markOf e k) (firstOf e k) (secondOf e k) w }
 
--- channel k of texel i. The map has each texel's partition
+-- channel k of texel i. The partitions has each texel's partition
 abbrev pub blendedAt : List Endpoints → List ℕ → List ℕ → ℕ → ℕ → ℕ → ℕ → Blended
-blendedAt ends weights map planes channel i k = blendedOf (getD ends (getD map i 0) nothing) k (weightAt weights planes channel i k)
+blendedAt ends weights partitions planes channel i k = blendedOf (getD ends (getD partitions i 0) nothing) k (weightAt weights planes channel i k)
 
 -- ---- reduced to a byte
 -- as the crate does it, by the mark
@@ -55,7 +55,7 @@ wordFrom reduced c = wordOf (reduced (c 0 .mark) (c 0 .value)) (reduced (c 1 .ma
 
 -- the word of texel i
 unfoldable pub texelWord : List Endpoints → List ℕ → List ℕ → ℕ → ℕ → ℕ → ℕ
-texelWord ends weights map planes channel i = wordFrom crateReduction (blendedAt ends weights map planes channel i)
+texelWord ends weights partitions planes channel i = wordFrom crateReduction (blendedAt ends weights partitions planes channel i)
 
 -- ---- as it is answered: reduced to a byte where it is LDR, and else the half, the largest finite one in place of infinity and NaN
 abbrev pub sampleOf : Mark → ℕ → Sample
@@ -64,8 +64,8 @@ sampleOf Hdr h = Half (finite h)
 
 -- channel k of texel i
 unfoldable pub texelSample : List Endpoints → List ℕ → List ℕ → ℕ → ℕ → ℕ → ℕ → Sample
-texelSample ends weights map planes channel i k =
-    let c = blendedAt ends weights map planes channel i k in
+texelSample ends weights partitions planes channel i k =
+    let c = blendedAt ends weights partitions planes channel i k in
     sampleOf (c .mark) (c .value)
 
 -- ---- short names for both at once

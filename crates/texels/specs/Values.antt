@@ -28,35 +28,35 @@ unfoldable pub weights : List ℕ
 weights = listOf (λ (k : ℕ). cond (eqb (k / mostTexels) 0) 32 64) 0 mostWeights
 
 -- texel i in partition i
-unfoldable pub map : List ℕ
-map = 0 ∷ 1 ∷ 2 ∷ []
+unfoldable pub partitions : List ℕ
+partitions = 0 ∷ 1 ∷ 2 ∷ []
 
 pub record Values : Type 0 where
   -- (128, 0, 128, 255)
-  pub half-way : texelWord ends weights map 1 0 0 ≡ 0xFF80_0080
+  pub half-way : texelWord ends weights partitions 1 0 0 ≡ 0xFF80_0080
   -- the second plane is red's: (0, 0, 128, 255)
-  pub red-apart : texelWord ends weights map 2 0 0 ≡ 0xFF00_0080
+  pub red-apart : texelWord ends weights partitions 2 0 0 ≡ 0xFF00_0080
   -- it is blue's: (128, 0, 255, 255)
-  pub blue-apart : texelWord ends weights map 2 2 0 ≡ 0xFF80_00FF
+  pub blue-apart : texelWord ends weights partitions 2 2 0 ≡ 0xFF80_00FF
   -- of one plane the channel does not matter
-  pub one-plane : texelWord ends weights map 1 2 0 ≡ 0xFF80_0080
+  pub one-plane : texelWord ends weights partitions 1 2 0 ≡ 0xFF80_0080
   -- of two planes with no channel neither
-  pub no-channel : texelWord ends weights map 2 4 0 ≡ 0xFF80_0080
-  pub hdr : texelWord ends weights map 1 0 1 ≡ 0xFFB7_7F01
-  pub hdr-bright : texelWord ends weights map 2 0 1 ≡ 0xFFFF_7F01
+  pub no-channel : texelWord ends weights partitions 2 4 0 ≡ 0xFF80_0080
+  pub hdr : texelWord ends weights partitions 1 0 1 ≡ 0xFFB7_7F01
+  pub hdr-bright : texelWord ends weights partitions 2 0 1 ≡ 0xFFFF_7F01
   -- an HDR colour with an LDR alpha
-  pub mixed : texelWord ends weights map 1 0 2 ≡ 0x40B7_7F01
+  pub mixed : texelWord ends weights partitions 1 0 2 ≡ 0x40B7_7F01
   -- the low lane comes first
-  pub low : laneAt (texelWord ends weights map 1 0) 0 ≡ 0x0080
-  pub high : laneAt (texelWord ends weights map 1 0) 1 ≡ 0xFF80
-  pub next : laneAt (texelWord ends weights map 1 0) 2 ≡ 0x7F01
+  pub low : laneAt (texelWord ends weights partitions 1 0) 0 ≡ 0x0080
+  pub high : laneAt (texelWord ends weights partitions 1 0) 1 ≡ 0xFF80
+  pub next : laneAt (texelWord ends weights partitions 1 0) 2 ≡ 0x7F01
   -- as many as are painted
   pub four-by-four : eights 16 ≡ 16
   pub five-by-five : eights 25 ≡ 32
   pub six-by-six : eights 36 ≡ 40
 
 pub values : Values
-unfolding ends weights map channelBy wordBy planeOf texelWord laneAt between expand crateByte bent halfOf hdrByte listOf
+unfolding ends weights partitions channelBy wordBy planeOf texelWord laneAt between expand crateByte bent halfOf hdrByte listOf
 values = record {
   half-way = refl;
   red-apart = refl;

@@ -16,13 +16,13 @@ pub struct Starts {
 }
 
 // A cast in a function of its own: its caller need not show that the number fits.
-fn wide(x: u8) -> u16
+fn u16_of(x: u8) -> u16
     ensures { λ r. ⌜ (r ≡ x) × (r < 256) ⌝ }
 {
     x as u16
 }
 
-fn long(x: u16) -> u32
+fn u32_of(x: u16) -> u32
     ensures { λ r. ⌜ r ≡ x ⌝ }
 {
     x as u32
@@ -81,5 +81,5 @@ pub fn hdr_channel(v0: u16, v1: u16, w: u8) -> u8
     requires { ⌜ (v0 < 4096) × (v1 < 4096) × (w ≤ 64) ⌝ }
     ensures { λ r. ⌜ r ≡ hdrChannel v0 v1 w ⌝ }
 {
-    blend::select_color_hdr(long(v0), long(v1), long(wide(w)))
+    blend::select_color_hdr(u32_of(v0), u32_of(v1), u32_of(u16_of(w)))
 }

@@ -20,7 +20,7 @@ Wide f = (p : ℕ) → pick f p < 4096
 
 -- the channel of texel i, whose weights start at x, of its numbers in each partition
 abbrev pub hdrAt : Four → Four → List ℕ → List ℕ → ℕ → ℕ → ℕ
-hdrAt first second weights map x i = hdrChannel (pick first (getD map i 0)) (pick second (getD map i 0)) (getD weights (x + i) 0)
+hdrAt first second weights partitions x i = hdrChannel (pick first (getD partitions i 0)) (pick second (getD partitions i 0)) (getD weights (x + i) 0)
 
 -- one number of each partition's endpoints
 abbrev pub fieldOf : (Endpoints → ℕ) → Endpoints → Endpoints → Endpoints → Endpoints → Four

@@ -11,14 +11,14 @@ use Rattle.laws.specs.Lists.{put, put-same, zeros-at}
 use Rattle.footprint.specs.Footprints.{mostTexels}
 use Rattle.half.specs.Half.{hdrByteOf}
 use Rattle.blend.specs.Blend.{between, halfOf, hdrChannel, wordOf}
-use Rattle.endpoints_colours.specs.Bounds.{Within, limit}
+use Rattle.endpoints_colours.specs.Bounds.{InLimits, limit}
 use Rattle.endpoints_colours.specs.Colours.{nothing}
 use Rattle.endpoints_colours.specs.declared.Mark.{Mark}
 use Rattle.endpoints_colours.specs.declared.Mark.the-variants.{Ldr, Hdr}
 use Rattle.endpoints_colours.specs.declared.Endpoints.{Endpoints}
 use Rattle.lanes.specs.Lanes.{laneAt, eights}
 use Rattle.texels.specs.Texels.{channelBy, wordBy, texelWord}
-use Rattle.texels.specs.Given.{Given}
+use Rattle.texels.specs.PaintGiven.{PaintGiven}
 use Rattle.texels.specs.Kinds.{startsOf, AllOf, eitherOf}
 use Rattle.lanes.specs.LaneLaws.{put-lanes}
 use Rattle.texels.specs.KindLaws.{both-hdr, any-field, any-entry, either-entry}
@@ -53,7 +53,7 @@ wide-of Hdr h = h
 
 -- numbers within their limits have 12 bits
 numbers-wide : (φ ψ : Endpoints → ℕ) (mark : Endpoints → Mark) (ends : List Endpoints) {v : Numbers} → v ≡ numbersIn φ ψ ends
-    → ((e : Endpoints) → Within e → (φ e < limit (mark e)) × (ψ e < limit (mark e))) → ((p : ℕ) → Within (getD ends p nothing)) → Wide (v .first) × Wide (v .second)
+    → ((e : Endpoints) → InLimits e → (φ e < limit (mark e)) × (ψ e < limit (mark e))) → ((p : ℕ) → InLimits (getD ends p nothing)) → Wide (v .first) × Wide (v .second)
 numbers-wide φ ψ mark ends e limits within =
     rw e (
       field-wide φ ends (λ p. wide-of (mark (getD ends p nothing)) (limits (getD ends p nothing) (within p) .0)),
@@ -70,7 +70,7 @@ pub record WideAll (v : Channels) : Type 0 where
   pub b : Wide (v .b .first) × Wide (v .b .second)
   pub a : Wide (v .a .first) × Wide (v .a .second)
 
-pub channels-wide : (ends : List Endpoints) (v : Channels) → v ≡ channelsIn ends → ((p : ℕ) → Within (getD ends p nothing)) → WideAll v
+pub channels-wide : (ends : List Endpoints) (v : Channels) → v ≡ channelsIn ends → ((p : ℕ) → InLimits (getD ends p nothing)) → WideAll v
 channels-wide ends v e within = record {
   r = numbers-wide (λ (e : Endpoints). e .r0) (λ (e : Endpoints). e .r1) (λ (e : Endpoints). e .color) ends (ap (λ (c : Channels). c .r) e) (λ e h. (h .r0, h .r1)) within;
   g = numbers-wide (λ (e : Endpoints). e .g0) (λ (e : Endpoints). e .g1) (λ (e : Endpoints). e .color) ends (ap (λ (c : Channels). c .g) e) (λ e h. (h .g0, h .g1)) within;
@@ -79,10 +79,10 @@ channels-wide ends v e within = record {
 }
 
 -- ---- one partition
-pub hdr-first : (parts n x : ℕ) (a b : Four) (weights map out s : List ℕ) → parts ≡ 1 → ((i : ℕ) → getD map i 0 < parts)
-    → out ≡ put (λ (i : ℕ). hdrChannel (a .a) (b .a) (getD weights (x + i) 0)) 0 (eights n) s → out ≡ put (hdrAt a b weights map x) 0 (eights n) s
-hdr-first parts n x a b weights map out s e mapped h =
-    h ∙ put-same _ _ 0 (eights n) s (λ i l m. let z : getD map i 0 ≡ 0 = omega (arith, mapped i) in rw z)
+pub hdr-first : (parts n x : ℕ) (a b : Four) (weights partitions out s : List ℕ) → parts ≡ 1 → ((i : ℕ) → getD partitions i 0 < parts)
+    → out ≡ put (λ (i : ℕ). hdrChannel (a .a) (b .a) (getD weights (x + i) 0)) 0 (eights n) s → out ≡ put (hdrAt a b weights partitions x) 0 (eights n) s
+hdr-first parts n x a b weights partitions out s e mapped h =
+    h ∙ put-same _ _ 0 (eights n) s (λ i l m. let z : getD partitions i 0 ≡ 0 = omega (arith, mapped i) in rw z)
 
 -- of two, the number of the partition
 pub either-pick : (f : Four) (p : ℕ) → p < 2 → eitherOf p (f .a) (f .b) ≡ pick f p
@@ -117,32 +117,32 @@ hdr-word : (e : Endpoints) (r g b a : ℕ) → e .color ≡ Hdr → e .alpha ≡
 unfolding wordBy channelBy
 hdr-word e r g b a p q = rw (p, q)
 
-module _ (n parts planes channel : ℕ) (ends : List Endpoints) (weights map : List ℕ) (given : Given n parts planes ends weights map) where
+module _ (n parts planes channel : ℕ) (ends : List Endpoints) (weights partitions : List ℕ) (given : PaintGiven n parts planes ends weights partitions) where
   -- a channel of texel i, of those of all
-  channel-at : (φ ψ : Endpoints → ℕ) (v : Numbers) (x i : ℕ) (s : List ℕ) → v ≡ numbersIn φ ψ ends → s ≡ put (hdrAt (v .first) (v .second) weights map x) 0 (eights n) (replicate mostTexels 0) → i < eights n
-      → getD s i 0 ≡ hdrChannel (φ (getD ends (getD map i 0) nothing)) (ψ (getD ends (getD map i 0) nothing)) (getD weights (x + i) 0)
+  channel-at : (φ ψ : Endpoints → ℕ) (v : Numbers) (x i : ℕ) (s : List ℕ) → v ≡ numbersIn φ ψ ends → s ≡ put (hdrAt (v .first) (v .second) weights partitions x) 0 (eights n) (replicate mostTexels 0) → i < eights n
+      → getD s i 0 ≡ hdrChannel (φ (getD ends (getD partitions i 0) nothing)) (ψ (getD ends (getD partitions i 0) nothing)) (getD weights (x + i) 0)
   channel-at φ ψ v x i s e h l =
-      let p : getD map i 0 < 4 = omega (arith, given .mapped i, given .four) in
+      let p : getD partitions i 0 < 4 = omega (arith, given .mapped i, given .four) in
       let m : eights n ≤ mostTexels = omega (arith, given .few) in
-      let f = hdrAt (fields φ ends) (fields ψ ends) weights map x in
+      let f = hdrAt (fields φ ends) (fields ψ ends) weights partitions x in
       let t : s ≡ put f 0 (eights n) (replicate mostTexels 0) = rw e at h in
-      rw (t, zeros-at f (eights n) mostTexels i m, lt-ltb i (eights n) l, field-at φ ends (getD map i 0) p, field-at ψ ends (getD map i 0) p)
+      rw (t, zeros-at f (eights n) mostTexels i m, lt-ltb i (eights n) l, field-at φ ends (getD partitions i 0) p, field-at ψ ends (getD partitions i 0) p)
 
   pub as-hdr : (k : Starts) (v : Channels) (r g b a out s : List ℕ) → AllOf 1 parts ends → k ≡ startsOf planes channel → v ≡ channelsIn ends
-      → r ≡ put (hdrAt (v .r .first) (v .r .second) weights map (k .r)) 0 (eights n) (replicate mostTexels 0)
-      → g ≡ put (hdrAt (v .g .first) (v .g .second) weights map (k .g)) 0 (eights n) (replicate mostTexels 0)
-      → b ≡ put (hdrAt (v .b .first) (v .b .second) weights map (k .b)) 0 (eights n) (replicate mostTexels 0)
-      → a ≡ put (hdrAt (v .a .first) (v .a .second) weights map (k .a)) 0 (eights n) (replicate mostTexels 0)
-      → out ≡ put (laneAt (wordAmong r g b a)) 0 (2 * eights n) s → out ≡ put (laneAt (texelWord ends weights map planes channel)) 0 (2 * eights n) s
+      → r ≡ put (hdrAt (v .r .first) (v .r .second) weights partitions (k .r)) 0 (eights n) (replicate mostTexels 0)
+      → g ≡ put (hdrAt (v .g .first) (v .g .second) weights partitions (k .g)) 0 (eights n) (replicate mostTexels 0)
+      → b ≡ put (hdrAt (v .b .first) (v .b .second) weights partitions (k .b)) 0 (eights n) (replicate mostTexels 0)
+      → a ≡ put (hdrAt (v .a .first) (v .a .second) weights partitions (k .a)) 0 (eights n) (replicate mostTexels 0)
+      → out ≡ put (laneAt (wordAmong r g b a)) 0 (2 * eights n) s → out ≡ put (laneAt (texelWord ends weights partitions planes channel)) 0 (2 * eights n) s
   as-hdr k v r g b a out s all ek ev pr pg pb pa h = h ∙ put-lanes _ _ (eights n) s same
     where
-      same : (i : ℕ) → i < eights n → wordAmong r g b a i ≡ texelWord ends weights map planes channel i
+      same : (i : ℕ) → i < eights n → wordAmong r g b a i ≡ texelWord ends weights partitions planes channel i
       same i l =
-          let e = getD ends (getD map i 0) nothing in
-          let m = both-hdr (e .color) (e .alpha) (all (getD map i 0) (given .mapped i)) in
+          let e = getD ends (getD partitions i 0) nothing in
+          let m = both-hdr (e .color) (e .alpha) (all (getD partitions i 0) (given .mapped i)) in
           rw (
             channel-at (λ (e : Endpoints). e .r0) (λ (e : Endpoints). e .r1) (v .r) (k .r) i r (ap (λ (c : Channels). c .r) ev) pr l,
             channel-at (λ (e : Endpoints). e .g0) (λ (e : Endpoints). e .g1) (v .g) (k .g) i g (ap (λ (c : Channels). c .g) ev) pg l,
             channel-at (λ (e : Endpoints). e .b0) (λ (e : Endpoints). e .b1) (v .b) (k .b) i b (ap (λ (c : Channels). c .b) ev) pb l,
             channel-at (λ (e : Endpoints). e .a0) (λ (e : Endpoints). e .a1) (v .a) (k .a) i a (ap (λ (c : Channels). c .a) ev) pa l,
-          ) (hdr-word e _ _ _ _ (m .0) (m .1) ∙ by-starts planes channel ends weights map k ek i)
+          ) (hdr-word e _ _ _ _ (m .0) (m .1) ∙ by-starts planes channel ends weights partitions k ek i)

@@ -7,7 +7,7 @@ ghost use Rattle.footprint.specs.Footprints.{mostTexels};
 ghost use Rattle.blend.specs.Blend.{hdrChannel};
 ghost use Rattle.lanes.specs.Lanes.{laneAt, eights};
 ghost use Rattle.texels.specs.Texels.{texelWord};
-ghost use Rattle.texels.specs.Given.{Given};
+ghost use Rattle.texels.specs.PaintGiven.{PaintGiven};
 ghost use Rattle.texels.specs.Kinds.{AllOf};
 ghost use Rattle.texels_hdr.specs.Channels.{Wide, hdrAt, channels, wordAmong};
 use endpoints_colours::Endpoints;
@@ -43,7 +43,7 @@ pub struct Channels {
 }
 
 // A cast in a function of its own: its caller need not show that the number fits.
-fn wide(x: u8) -> u16
+fn u16_of(x: u8) -> u16
     ensures { λ r. ⌜ (r ≡ x) × (r < 256) ⌝ }
 {
     x as u16
@@ -82,12 +82,12 @@ fn hdr_two(
     n: usize,
     w: &[u8; WEIGHTS],
     x: usize,
-    map: &[u8; TEXELS],
+    partitions: &[u8; TEXELS],
     a: Four,
     b: Four,
 )
-    requires { ⌜ (n ≤ mostTexels) × (x ≤ mostTexels) × Wide a × Wide b ⌝ ∗ ⌜ ((i : ℕ) → getD (now w) i 0 ≤ 64) ⌝ ∗ ⌜ ((i : ℕ) → getD (now map) i 0 < 2) ⌝ }
-    ensures { λ _. ⌜ now (out .exit) ≡ put (hdrAt a b (now (w .entry)) (now (map .entry)) x) 0 (eights n) (now (out .entry)) ⌝ }
+    requires { ⌜ (n ≤ mostTexels) × (x ≤ mostTexels) × Wide a × Wide b ⌝ ∗ ⌜ ((i : ℕ) → getD (now w) i 0 ≤ 64) ⌝ ∗ ⌜ ((i : ℕ) → getD (now partitions) i 0 < 2) ⌝ }
+    ensures { λ _. ⌜ now (out .exit) ≡ put (hdrAt a b (now (w .entry)) (now (partitions .entry)) x) 0 (eights n) (now (out .entry)) ⌝ }
 {
     let a0 = a.a;
     let a1 = a.b;
@@ -96,7 +96,7 @@ fn hdr_two(
     let m = eights(n);
     let mut i = 0;
     while i < m {
-        let p = map[i];
+        let p = partitions[i];
         out[i] = hdr_channel(either(p, a0, a1), either(p, b0, b1), w[x + i]);
         i += 1;
     }
@@ -108,12 +108,12 @@ fn hdr_four(
     n: usize,
     w: &[u8; WEIGHTS],
     x: usize,
-    map: &[u8; TEXELS],
+    partitions: &[u8; TEXELS],
     a: Four,
     b: Four,
 )
-    requires { ⌜ (n ≤ mostTexels) × (x ≤ mostTexels) × Wide a × Wide b ⌝ ∗ ⌜ ((i : ℕ) → getD (now w) i 0 ≤ 64) ⌝ ∗ ⌜ ((i : ℕ) → getD (now map) i 0 < 4) ⌝ }
-    ensures { λ _. ⌜ now (out .exit) ≡ put (hdrAt a b (now (w .entry)) (now (map .entry)) x) 0 (eights n) (now (out .entry)) ⌝ }
+    requires { ⌜ (n ≤ mostTexels) × (x ≤ mostTexels) × Wide a × Wide b ⌝ ∗ ⌜ ((i : ℕ) → getD (now w) i 0 ≤ 64) ⌝ ∗ ⌜ ((i : ℕ) → getD (now partitions) i 0 < 4) ⌝ }
+    ensures { λ _. ⌜ now (out .exit) ≡ put (hdrAt a b (now (w .entry)) (now (partitions .entry)) x) 0 (eights n) (now (out .entry)) ⌝ }
 {
     let a0 = a.a;
     let a1 = a.b;
@@ -126,7 +126,7 @@ fn hdr_four(
     let m = eights(n);
     let mut i = 0;
     while i < m {
-        let p = map[i];
+        let p = partitions[i];
         out[i] = hdr_channel(any(p, a0, a1, a2, a3), any(p, b0, b1, b2, b3), w[x + i]);
         i += 1;
     }
@@ -150,18 +150,18 @@ fn hdr_bytes<'a>(
     parts: usize,
     w: &'a [u8; WEIGHTS],
     x: usize,
-    map: &'a [u8; TEXELS],
+    partitions: &'a [u8; TEXELS],
     v: Numbers,
 )
-    requires { ⌜ (n ≤ mostTexels) × (parts ≤ 4) × (x ≤ mostTexels) × Wide (v .first) × Wide (v .second) ⌝ ∗ ⌜ ((i : ℕ) → getD (now w) i 0 ≤ 64) ⌝ ∗ ⌜ ((i : ℕ) → getD (now map) i 0 < parts) ⌝ }
-    ensures { λ _. ⌜ now (out .exit) ≡ put (hdrAt (v .first) (v .second) (now (w .entry)) (now (map .entry)) x) 0 (eights n) (now (out .entry)) ⌝ }
+    requires { ⌜ (n ≤ mostTexels) × (parts ≤ 4) × (x ≤ mostTexels) × Wide (v .first) × Wide (v .second) ⌝ ∗ ⌜ ((i : ℕ) → getD (now w) i 0 ≤ 64) ⌝ ∗ ⌜ ((i : ℕ) → getD (now partitions) i 0 < parts) ⌝ }
+    ensures { λ _. ⌜ now (out .exit) ≡ put (hdrAt (v .first) (v .second) (now (w .entry)) (now (partitions .entry)) x) 0 (eights n) (now (out .entry)) ⌝ }
 {
     let a = v.first;
     let b = v.second;
     match parts {
         1 => hdr_single(out, n, w, x, a.a, b.a),
-        2 => hdr_two(out, n, w, x, map, a, b),
-        _ => hdr_four(out, n, w, x, map, a, b),
+        2 => hdr_two(out, n, w, x, partitions, a, b),
+        _ => hdr_four(out, n, w, x, partitions, a, b),
     }
 }
 
@@ -233,7 +233,7 @@ fn channels_of(e: Endpoints, f: Endpoints, g: Endpoints, h: Endpoints) -> Channe
 fn joined(low: u8, high: u8) -> u16
     ensures { λ r. ⌜ (r ≡ low + 256 * high) × (low < 256) × (high < 256) ⌝ }
 {
-    wide(low) + 256 * wide(high)
+    u16_of(low) + 256 * u16_of(high)
 }
 
 // The words of four channels.
@@ -266,10 +266,10 @@ pub fn paint_hdr<'a>(
     channel: usize,
     ends: [Endpoints; 4],
     w: &'a [u8; WEIGHTS],
-    map: &'a [u8; TEXELS],
+    partitions: &'a [u8; TEXELS],
 )
-    requires { ⌜ Given n parts planes ends (now w) (now map) ⌝ ∗ ⌜ AllOf 1 parts ends ⌝ }
-    ensures { λ _. ⌜ now (out .exit) ≡ put (laneAt (texelWord ends (now (w .entry)) (now (map .entry)) planes channel)) 0 (2 * eights n) (now (out .entry)) ⌝ }
+    requires { ⌜ PaintGiven n parts planes ends (now w) (now partitions) ⌝ ∗ ⌜ AllOf 1 parts ends ⌝ }
+    ensures { λ _. ⌜ now (out .exit) ≡ put (laneAt (texelWord ends (now (w .entry)) (now (partitions .entry)) planes channel)) 0 (2 * eights n) (now (out .entry)) ⌝ }
 {
     let k = starts_of(planes, channel);
     let v = channels_of(ends[0], ends[1], ends[2], ends[3]);
@@ -277,9 +277,9 @@ pub fn paint_hdr<'a>(
     let mut green = [0u8; TEXELS];
     let mut blue = [0u8; TEXELS];
     let mut alpha = [0u8; TEXELS];
-    hdr_bytes(&mut red, n, parts, w, k.r, map, v.r);
-    hdr_bytes(&mut green, n, parts, w, k.g, map, v.g);
-    hdr_bytes(&mut blue, n, parts, w, k.b, map, v.b);
-    hdr_bytes(&mut alpha, n, parts, w, k.a, map, v.a);
+    hdr_bytes(&mut red, n, parts, w, k.r, partitions, v.r);
+    hdr_bytes(&mut green, n, parts, w, k.g, partitions, v.g);
+    hdr_bytes(&mut blue, n, parts, w, k.b, partitions, v.b);
+    hdr_bytes(&mut alpha, n, parts, w, k.a, partitions, v.a);
     join_all(out, n, &red, &green, &blue, &alpha);
 }

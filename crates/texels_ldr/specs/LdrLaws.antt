@@ -10,14 +10,14 @@ use lib.Dec.{eqb}
 use lib.ListN.{getD, set}
 use Rattle.laws.specs.Lists.{put}
 use Rattle.footprint.specs.Footprints.{mostTexels}
-use Rattle.endpoints_colours.specs.Bounds.{Within, limit}
+use Rattle.endpoints_colours.specs.Bounds.{InLimits, limit}
 use Rattle.endpoints_colours.specs.Colours.{nothing}
 use Rattle.endpoints_colours.specs.declared.Mark.{Mark}
 use Rattle.endpoints_colours.specs.declared.Mark.the-variants.{Ldr}
 use Rattle.endpoints_colours.specs.declared.Endpoints.{Endpoints}
 use Rattle.lanes.specs.Lanes.{laneAt, eights}
 use Rattle.texels.specs.Texels.{channelBy, wordBy, planeOf, texelWord}
-use Rattle.texels.specs.Given.{Given}
+use Rattle.texels.specs.PaintGiven.{PaintGiven}
 use Rattle.texels.specs.Kinds.{startsOf, wordAt, kindOf, AllOf, eitherOf}
 use Rattle.lanes.specs.LaneLaws.{two-stores}
 use Rattle.texels.specs.PaintLaws.{low-lane, high-lane}
@@ -32,7 +32,7 @@ byte e h =
     let l = rw e at h in
     omega arith
 
-is-plain : (e : Endpoints) → Within e → kindOf e ≡ 0 → Plain e
+is-plain : (e : Endpoints) → InLimits e → kindOf e ≡ 0 → Plain e
 is-plain e h k =
     let m = both-ldr (e .color) (e .alpha) k in
     let c = m .0 in
@@ -90,27 +90,27 @@ one-plane : (planes channel k i : ℕ) → planes ≡ 1 → mostTexels * planeOf
 unfolding planeOf
 one-plane planes channel k i e = rw e (zero-add i)
 
-module _ (n parts planes channel : ℕ) (ends : List Endpoints) (weights map : List ℕ) (given : Given n parts planes ends weights map) where
-  by-one : planes ≡ 1 → (i : ℕ) → wordOne (getD ends (getD map i 0) nothing) weights i ≡ texelWord ends weights map planes channel i
-  by-one e i = rw (texel-is planes channel ends weights map i, one-plane planes channel 0 i e, one-plane planes channel 1 i e, one-plane planes channel 2 i e, one-plane planes channel 3 i e)
+module _ (n parts planes channel : ℕ) (ends : List Endpoints) (weights partitions : List ℕ) (given : PaintGiven n parts planes ends weights partitions) where
+  by-one : planes ≡ 1 → (i : ℕ) → wordOne (getD ends (getD partitions i 0) nothing) weights i ≡ texelWord ends weights partitions planes channel i
+  by-one e i = rw (texel-is planes channel ends weights partitions i, one-plane planes channel 0 i e, one-plane planes channel 1 i e, one-plane planes channel 2 i e, one-plane planes channel 3 i e)
 
   -- of one partition every texel has the first's endpoints
-  first : parts ≡ 1 → (i : ℕ) → getD map i 0 ≡ 0
+  first : parts ≡ 1 → (i : ℕ) → getD partitions i 0 ≡ 0
   first e i = omega (arith, given .mapped i)
 
   module _ (out s : List ℕ) where
     pub as-one : parts ≡ 1 → planes ≡ 1 → out ≡ put (laneAt (wordOne (getD ends 0 nothing) weights)) 0 (2 * eights n) s
-        → out ≡ put (laneAt (texelWord ends weights map planes channel)) 0 (2 * eights n) s
-    as-one p q = painted planes channel ends weights map n out s _ (λ i. rw (first p i) at (by-one q i))
+        → out ≡ put (laneAt (texelWord ends weights partitions planes channel)) 0 (2 * eights n) s
+    as-one p q = painted planes channel ends weights partitions n out s _ (λ i. rw (first p i) at (by-one q i))
 
     pub as-planes : (k : Starts) → k ≡ startsOf planes channel → parts ≡ 1 → out ≡ put (laneAt (wordAt (getD ends 0 nothing) weights k)) 0 (2 * eights n) s
-        → out ≡ put (laneAt (texelWord ends weights map planes channel)) 0 (2 * eights n) s
-    as-planes k e p = painted planes channel ends weights map n out s _ (λ i. rw (first p i) at (by-starts planes channel ends weights map k e i))
+        → out ≡ put (laneAt (texelWord ends weights partitions planes channel)) 0 (2 * eights n) s
+    as-planes k e p = painted planes channel ends weights partitions n out s _ (λ i. rw (first p i) at (by-starts planes channel ends weights partitions k e i))
 
-    pub as-two : parts ≡ 2 → planes ≡ 1 → out ≡ put (laneAt (λ (i : ℕ). wordOne (eitherOf (getD map i 0) (getD ends 0 nothing) (getD ends 1 nothing)) weights i)) 0 (2 * eights n) s
-        → out ≡ put (laneAt (texelWord ends weights map planes channel)) 0 (2 * eights n) s
+    pub as-two : parts ≡ 2 → planes ≡ 1 → out ≡ put (laneAt (λ (i : ℕ). wordOne (eitherOf (getD partitions i 0) (getD ends 0 nothing) (getD ends 1 nothing)) weights i)) 0 (2 * eights n) s
+        → out ≡ put (laneAt (texelWord ends weights partitions planes channel)) 0 (2 * eights n) s
     as-two p q =
-        painted planes channel ends weights map n out s _ (λ i. let l : getD map i 0 < 2 = omega (arith, given .mapped i) in rw (either-entry ends nothing (getD map i 0) l) (by-one q i))
+        painted planes channel ends weights partitions n out s _ (λ i. let l : getD partitions i 0 < 2 = omega (arith, given .mapped i) in rw (either-entry ends nothing (getD partitions i 0) l) (by-one q i))
 
   -- the endpoints in use
   pub plain-at : AllOf 0 parts ends → (p : ℕ) → p < parts → Plain (getD ends p nothing)

@@ -7,7 +7,7 @@ ghost use Rattle.footprint.specs.Footprints.{mostTexels};
 ghost use Rattle.endpoints_colours.specs.Colours.{nothing};
 ghost use Rattle.lanes.specs.Lanes.{laneAt, eights};
 ghost use Rattle.texels.specs.Texels.{texelWord};
-ghost use Rattle.texels.specs.Given.{Given};
+ghost use Rattle.texels.specs.PaintGiven.{PaintGiven};
 ghost use Rattle.texels.specs.Kinds.{Ahead, wordAt, AllOf, eitherOf, anyOf};
 ghost use Rattle.texels_ldr.specs.Plain.{WeightsAt, wordOne, Plain, ldrPair};
 use endpoints_colours::Endpoints;
@@ -30,7 +30,7 @@ pub struct Weights {
 }
 
 // A cast in a function of its own: its caller need not show that the number fits.
-fn wide(x: u8) -> u16
+fn u16_of(x: u8) -> u16
     ensures { λ r. ⌜ (r ≡ x) × (r < 256) ⌝ }
 {
     x as u16
@@ -41,10 +41,10 @@ fn weights_at(w: &[u8; WEIGHTS], k: Starts, i: usize) -> Weights
     ensures { λ v. ⌜ WeightsAt (now (w .entry)) k i v ⌝ }
 {
     Weights {
-        r: wide(w[k.r + i]),
-        g: wide(w[k.g + i]),
-        b: wide(w[k.b + i]),
-        a: wide(w[k.a + i]),
+        r: u16_of(w[k.r + i]),
+        g: u16_of(w[k.g + i]),
+        b: u16_of(w[k.b + i]),
+        a: u16_of(w[k.a + i]),
     }
 }
 
@@ -64,7 +64,7 @@ fn paint_one(out: &mut [u16; LANES], n: usize, w: &[u8; WEIGHTS], e: Endpoints)
     let m = eights(n);
     let mut i = 0;
     while i < m {
-        let x = wide(w[i]);
+        let x = u16_of(w[i]);
         out[2 * i] = pair(e.b0, e.b1, e.g0, e.g1, x, x);
         out[2 * i + 1] = pair(e.r0, e.r1, e.a0, e.a1, x, x);
         i += 1;
@@ -110,18 +110,18 @@ fn paint_two(
     out: &mut [u16; LANES],
     n: usize,
     w: &[u8; WEIGHTS],
-    map: &[u8; TEXELS],
+    partitions: &[u8; TEXELS],
     e: Endpoints,
     f: Endpoints,
 )
     requires { ⌜ (n ≤ mostTexels) × Plain e × Plain f ⌝ ∗ ⌜ ((i : ℕ) → getD (now w) i 0 ≤ 64) ⌝ }
-    ensures { λ _. ⌜ now (out .exit) ≡ put (laneAt (λ (i : ℕ). wordOne (eitherOf (getD (now (map .entry)) i 0) e f) (now (w .entry)) i)) 0 (2 * eights n) (now (out .entry)) ⌝ }
+    ensures { λ _. ⌜ now (out .exit) ≡ put (laneAt (λ (i : ℕ). wordOne (eitherOf (getD (now (partitions .entry)) i 0) e f) (now (w .entry)) i)) 0 (2 * eights n) (now (out .entry)) ⌝ }
 {
     let m = eights(n);
     let mut i = 0;
     while i < m {
-        let v = wide(w[i]);
-        let x = either_of(map[i], e, f);
+        let v = u16_of(w[i]);
+        let x = either_of(partitions[i], e, f);
         out[2 * i] = pair(x.b0, x.b1, x.g0, x.g1, v, v);
         out[2 * i + 1] = pair(x.r0, x.r1, x.a0, x.a1, v, v);
         i += 1;
@@ -153,11 +153,11 @@ fn paint_four(
     n: usize,
     w: &[u8; WEIGHTS],
     k: Starts,
-    map: &[u8; TEXELS],
+    partitions: &[u8; TEXELS],
     ends: [Endpoints; 4],
 )
-    requires { ⌜ (n ≤ mostTexels) × Ahead k ⌝ ∗ ⌜ ((i : ℕ) → getD (now w) i 0 ≤ 64) ⌝ ∗ ⌜ ((i : ℕ) → getD (now map) i 0 < 4) ⌝ ∗ ⌜ ((i : ℕ) → Plain (getD ends (getD (now map) i 0) nothing)) ⌝ }
-    ensures { λ _. ⌜ now (out .exit) ≡ put (laneAt (λ (i : ℕ). wordAt (getD ends (getD (now (map .entry)) i 0) nothing) (now (w .entry)) k i)) 0 (2 * eights n) (now (out .entry)) ⌝ }
+    requires { ⌜ (n ≤ mostTexels) × Ahead k ⌝ ∗ ⌜ ((i : ℕ) → getD (now w) i 0 ≤ 64) ⌝ ∗ ⌜ ((i : ℕ) → getD (now partitions) i 0 < 4) ⌝ ∗ ⌜ ((i : ℕ) → Plain (getD ends (getD (now partitions) i 0) nothing)) ⌝ }
+    ensures { λ _. ⌜ now (out .exit) ≡ put (laneAt (λ (i : ℕ). wordAt (getD ends (getD (now (partitions .entry)) i 0) nothing) (now (w .entry)) k i)) 0 (2 * eights n) (now (out .entry)) ⌝ }
 {
     let e0 = ends[0];
     let e1 = ends[1];
@@ -167,7 +167,7 @@ fn paint_four(
     let mut i = 0;
     while i < m {
         let v = weights_at(w, k, i);
-        let x = any_of(map[i], e0, e1, e2, e3);
+        let x = any_of(partitions[i], e0, e1, e2, e3);
         out[2 * i] = pair(x.b0, x.b1, x.g0, x.g1, v.b, v.g);
         out[2 * i + 1] = pair(x.r0, x.r1, x.a0, x.a1, v.r, v.a);
         i += 1;
@@ -183,10 +183,10 @@ pub fn paint_ldr<'a>(
     channel: usize,
     ends: [Endpoints; 4],
     w: &'a [u8; WEIGHTS],
-    map: &'a [u8; TEXELS],
+    partitions: &'a [u8; TEXELS],
 )
-    requires { ⌜ Given n parts planes ends (now w) (now map) ⌝ ∗ ⌜ AllOf 0 parts ends ⌝ }
-    ensures { λ _. ⌜ now (out .exit) ≡ put (laneAt (texelWord ends (now (w .entry)) (now (map .entry)) planes channel)) 0 (2 * eights n) (now (out .entry)) ⌝ }
+    requires { ⌜ PaintGiven n parts planes ends (now w) (now partitions) ⌝ ∗ ⌜ AllOf 0 parts ends ⌝ }
+    ensures { λ _. ⌜ now (out .exit) ≡ put (laneAt (texelWord ends (now (w .entry)) (now (partitions .entry)) planes channel)) 0 (2 * eights n) (now (out .entry)) ⌝ }
 {
     if parts == 1 {
         if planes == 1 {
@@ -196,8 +196,8 @@ pub fn paint_ldr<'a>(
     }
     if parts == 2 {
         if planes == 1 {
-            return paint_two(out, n, w, map, ends[0], ends[1]);
+            return paint_two(out, n, w, partitions, ends[0], ends[1]);
         }
     }
-    paint_four(out, n, w, starts_of(planes, channel), map, ends);
+    paint_four(out, n, w, starts_of(planes, channel), partitions, ends);
 }

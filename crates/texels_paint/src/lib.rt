@@ -4,7 +4,7 @@ ghost use Prim.Native.Nat.{_*_, _≤_, _<_};
 ghost use Rattle.laws.specs.Lists.{put};
 ghost use Rattle.lanes.specs.Lanes.{laneAt, eights};
 ghost use Rattle.texels.specs.Texels.{texelWord};
-ghost use Rattle.texels.specs.Given.{Given};
+ghost use Rattle.texels.specs.PaintGiven.{PaintGiven};
 ghost use Rattle.texels.specs.Kinds.{kindOf, AllOf};
 use endpoints_colours::Endpoints;
 use endpoints_colours::Mark;
@@ -60,17 +60,17 @@ pub fn applicate_color<'a>(
     channel: usize,
     ends: [Endpoints; 4],
     w: &'a [u8; WEIGHTS],
-    map: &'a [u8; TEXELS],
+    partitions: &'a [u8; TEXELS],
 )
-    requires { ⌜ Given n parts planes ends (now w) (now map) ⌝ }
-    ensures { λ _. ⌜ now (out .exit) ≡ put (laneAt (texelWord ends (now (w .entry)) (now (map .entry)) planes channel)) 0 (2 * eights n) (now (out .entry)) ⌝ }
+    requires { ⌜ PaintGiven n parts planes ends (now w) (now partitions) ⌝ }
+    ensures { λ _. ⌜ now (out .exit) ≡ put (laneAt (texelWord ends (now (w .entry)) (now (partitions .entry)) planes channel)) 0 (2 * eights n) (now (out .entry)) ⌝ }
 {
     let kind = common_kind(parts, ends);
     if kind == 0 {
-        return texels_ldr::paint_ldr(out, n, parts, planes, channel, ends, w, map);
+        return texels_ldr::paint_ldr(out, n, parts, planes, channel, ends, w, partitions);
     }
     if kind == 1 {
-        return texels_hdr::paint_hdr(out, n, parts, planes, channel, ends, w, map);
+        return texels_hdr::paint_hdr(out, n, parts, planes, channel, ends, w, partitions);
     }
-    mixed::paint_any(out, n, w, starts_of(planes, channel), map, ends);
+    mixed::paint_any(out, n, w, starts_of(planes, channel), partitions, ends);
 }

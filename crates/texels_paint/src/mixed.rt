@@ -4,7 +4,7 @@ ghost use Prim.Native.Nat.{ℕ, _*_, _/_, _%_, _≤_, _<_};
 ghost use lib.ListN.{getD};
 ghost use Rattle.laws.specs.Lists.{put};
 ghost use Rattle.footprint.specs.Footprints.{mostTexels};
-ghost use Rattle.endpoints_colours.specs.Bounds.{Within, limit};
+ghost use Rattle.endpoints_colours.specs.Bounds.{InLimits, limit};
 ghost use Rattle.endpoints_colours.specs.Colours.{nothing};
 ghost use Rattle.lanes.specs.Lanes.{laneAt, eights};
 ghost use Rattle.texels.specs.Texels.{channelBy, wordBy};
@@ -19,7 +19,7 @@ use texels::Starts;
 use texels::hdr_channel;
 
 // A cast in a function of its own: its caller need not show that the number fits.
-fn wide(x: u8) -> u16
+fn u16_of(x: u8) -> u16
     ensures { λ r. ⌜ (r ≡ x) × (r < 256) ⌝ }
 {
     x as u16
@@ -37,14 +37,14 @@ fn channel_by(m: Mark, v0: u16, v1: u16, w: u8) -> u8
     ensures { λ r. ⌜ r ≡ channelBy m v0 v1 w ⌝ }
 {
     match m {
-        Mark::Ldr => blend::select_color_byte(v0, v1, wide(w)) as u8,
+        Mark::Ldr => blend::select_color_byte(v0, v1, u16_of(w)) as u8,
         Mark::Hdr => hdr_channel(v0, v1, w),
     }
 }
 
 // A texel's word.
 fn texel(e: Endpoints, r: u8, g: u8, b: u8, a: u8) -> u32
-    requires { ⌜ Within e × (r ≤ 64) × (g ≤ 64) × (b ≤ 64) × (a ≤ 64) ⌝ }
+    requires { ⌜ InLimits e × (r ≤ 64) × (g ≤ 64) × (b ≤ 64) × (a ≤ 64) ⌝ }
     ensures { λ x. ⌜ x ≡ wordBy e r g b a ⌝ }
 {
     let c = e.color;
@@ -75,16 +75,16 @@ pub(crate) fn paint_any(
     n: usize,
     w: &[u8; WEIGHTS],
     k: Starts,
-    map: &[u8; TEXELS],
+    partitions: &[u8; TEXELS],
     ends: [Endpoints; 4],
 )
-    requires { ⌜ (n ≤ mostTexels) × Ahead k ⌝ ∗ ⌜ ((i : ℕ) → Within (getD ends i nothing)) ⌝ ∗ ⌜ ((i : ℕ) → getD (now w) i 0 ≤ 64) ⌝ ∗ ⌜ ((i : ℕ) → getD (now map) i 0 < 4) ⌝ }
-    ensures { λ _. ⌜ now (out .exit) ≡ put (laneAt (λ (i : ℕ). wordAt (getD ends (getD (now (map .entry)) i 0) nothing) (now (w .entry)) k i)) 0 (2 * eights n) (now (out .entry)) ⌝ }
+    requires { ⌜ (n ≤ mostTexels) × Ahead k ⌝ ∗ ⌜ ((i : ℕ) → InLimits (getD ends i nothing)) ⌝ ∗ ⌜ ((i : ℕ) → getD (now w) i 0 ≤ 64) ⌝ ∗ ⌜ ((i : ℕ) → getD (now partitions) i 0 < 4) ⌝ }
+    ensures { λ _. ⌜ now (out .exit) ≡ put (laneAt (λ (i : ℕ). wordAt (getD ends (getD (now (partitions .entry)) i 0) nothing) (now (w .entry)) k i)) 0 (2 * eights n) (now (out .entry)) ⌝ }
 {
     let m = eights(n);
     let mut i = 0;
     while i < m {
-        let e = ends[place(map[i])];
+        let e = ends[place(partitions[i])];
         let x = texel(e, w[k.r + i], w[k.g + i], w[k.b + i], w[k.a + i]);
         out[2 * i] = low(x);
         out[2 * i + 1] = high(x);

@@ -52,12 +52,12 @@ abbrev pub secondIn : Pairs → ℕ → ℕ
 secondIn s p = pick s (λ (e : Pair). e .second) p
 
 -- ends within their limits
-abbrev pub Bounded : Pairs → Type 0
-Bounded s = (p : ℕ) → p < 4 → (firstIn s p < limitBy (hdrIn s p)) × (secondIn s p < limitBy (hdrIn s p))
+abbrev pub PairsInLimits : Pairs → Type 0
+PairsInLimits s = (p : ℕ) → p < 4 → (firstIn s p < limitBy (hdrIn s p)) × (secondIn s p < limitBy (hdrIn s p))
 
 -- the lane of texel i, whose weights start at x: of one partition, and of any
 abbrev pub oneAt : Pair → List ℕ → ℕ → ℕ → ℕ
 oneAt e weights x i = sampleLane (e .hdr) (e .first) (e .second) (getD weights (x + i) 0)
 
 abbrev pub anyAt : Pairs → List ℕ → List ℕ → ℕ → ℕ → ℕ
-anyAt s weights map x i = sampleLane (hdrIn s (getD map i 0)) (firstIn s (getD map i 0)) (secondIn s (getD map i 0)) (getD weights (x + i) 0)
+anyAt s weights partitions x i = sampleLane (hdrIn s (getD partitions i 0)) (firstIn s (getD partitions i 0)) (secondIn s (getD partitions i 0)) (getD weights (x + i) 0)

@@ -6,8 +6,8 @@ ghost use Rattle.laws.specs.Lists.{putAt};
 ghost use Rattle.footprint.specs.Footprints.{mostTexels};
 ghost use Rattle.lanes.specs.Lanes.{eights};
 ghost use Rattle.texels.specs.Samples.{texelLane, samplesIn};
-ghost use Rattle.texels.specs.Given.{Given};
-ghost use Rattle.texels_samples.specs.Planes.{hdrOf, limitBy, sampleLane, pairOf, pairsOf, Bounded, oneAt, anyAt};
+ghost use Rattle.texels.specs.PaintGiven.{PaintGiven};
+ghost use Rattle.texels_samples.specs.Planes.{hdrOf, limitBy, sampleLane, pairOf, pairsOf, PairsInLimits, oneAt, anyAt};
 use endpoints_colours::Endpoints;
 use endpoints_colours::Mark;
 use footprint::TEXELS;
@@ -33,13 +33,13 @@ pub struct Pairs {
 }
 
 // A cast in a function of its own: its caller need not show that the number fits.
-fn wide(x: u8) -> u16
+fn u16_of(x: u8) -> u16
     ensures { λ r. ⌜ (r ≡ x) × (r < 256) ⌝ }
 {
     x as u16
 }
 
-fn long(x: u16) -> u32
+fn u32_of(x: u16) -> u32
     ensures { λ r. ⌜ r ≡ x ⌝ }
 {
     x as u32
@@ -51,9 +51,9 @@ fn sample(hdr: u16, v0: u16, v1: u16, w: u8) -> u16
     ensures { λ r. ⌜ r ≡ sampleLane hdr v0 v1 w ⌝ }
 {
     if hdr == 0 {
-        blend::select_color_byte(v0, v1, wide(w))
+        blend::select_color_byte(v0, v1, u16_of(w))
     } else {
-        0x8000 + blend::select_half(long(v0), long(v1), long(wide(w)))
+        0x8000 + blend::select_half(u32_of(v0), u32_of(v1), u32_of(u16_of(w)))
     }
 }
 
@@ -80,11 +80,11 @@ fn put_any(
     n: usize,
     w: &[u8; WEIGHTS],
     x: usize,
-    map: &[u8; TEXELS],
+    partitions: &[u8; TEXELS],
     s: Pairs,
 )
-    requires { ⌜ (at ≤ 432) × (n ≤ mostTexels) × (x ≤ mostTexels) × Bounded s ⌝ ∗ ⌜ ((i : ℕ) → getD (now w) i 0 ≤ 64) ⌝ ∗ ⌜ ((i : ℕ) → getD (now map) i 0 < 4) ⌝ }
-    ensures { λ _. ⌜ now (out .exit) ≡ putAt (anyAt s (now (w .entry)) (now (map .entry)) x) at (eights n) (now (out .entry)) ⌝ }
+    requires { ⌜ (at ≤ 432) × (n ≤ mostTexels) × (x ≤ mostTexels) × PairsInLimits s ⌝ ∗ ⌜ ((i : ℕ) → getD (now w) i 0 ≤ 64) ⌝ ∗ ⌜ ((i : ℕ) → getD (now partitions) i 0 < 4) ⌝ }
+    ensures { λ _. ⌜ now (out .exit) ≡ putAt (anyAt s (now (w .entry)) (now (partitions .entry)) x) at (eights n) (now (out .entry)) ⌝ }
 {
     let e = s.a;
     let f = s.b;
@@ -105,7 +105,7 @@ fn put_any(
     let m = eights(n);
     let mut i = 0;
     while i < m {
-        let p = map[i];
+        let p = partitions[i];
         out[at + i] = sample(
             any(p, e0, f0, g0, h0),
             any(p, e1, f1, g1, h1),
@@ -124,16 +124,16 @@ fn put_channel<'a>(
     parts: usize,
     w: &'a [u8; WEIGHTS],
     x: usize,
-    map: &'a [u8; TEXELS],
+    partitions: &'a [u8; TEXELS],
     s: Pairs,
 )
-    requires { ⌜ (at ≤ 432) × (n ≤ mostTexels) × (parts ≤ 4) × (x ≤ mostTexels) × Bounded s ⌝ ∗ ⌜ ((i : ℕ) → getD (now w) i 0 ≤ 64) ⌝ ∗ ⌜ ((i : ℕ) → getD (now map) i 0 < parts) ⌝ }
-    ensures { λ _. ⌜ now (out .exit) ≡ putAt (anyAt s (now (w .entry)) (now (map .entry)) x) at (eights n) (now (out .entry)) ⌝ }
+    requires { ⌜ (at ≤ 432) × (n ≤ mostTexels) × (parts ≤ 4) × (x ≤ mostTexels) × PairsInLimits s ⌝ ∗ ⌜ ((i : ℕ) → getD (now w) i 0 ≤ 64) ⌝ ∗ ⌜ ((i : ℕ) → getD (now partitions) i 0 < parts) ⌝ }
+    ensures { λ _. ⌜ now (out .exit) ≡ putAt (anyAt s (now (w .entry)) (now (partitions .entry)) x) at (eights n) (now (out .entry)) ⌝ }
 {
     if parts == 1 {
         return put_one(out, at, n, w, x, s.a);
     }
-    put_any(out, at, n, w, x, map, s);
+    put_any(out, at, n, w, x, partitions, s);
 }
 
 fn hdr_of(m: Mark) -> u16
@@ -201,14 +201,14 @@ pub fn put_samples<'a>(
     channel: usize,
     ends: [Endpoints; 4],
     w: &'a [u8; WEIGHTS],
-    map: &'a [u8; TEXELS],
+    partitions: &'a [u8; TEXELS],
 )
-    requires { ⌜ Given n parts planes ends (now w) (now map) ⌝ }
-    ensures { λ _. ⌜ now (out .exit) ≡ samplesIn n (texelLane ends (now (w .entry)) (now (map .entry)) planes channel) (now (out .entry)) ⌝ }
+    requires { ⌜ PaintGiven n parts planes ends (now w) (now partitions) ⌝ }
+    ensures { λ _. ⌜ now (out .exit) ≡ samplesIn n (texelLane ends (now (w .entry)) (now (partitions .entry)) planes channel) (now (out .entry)) ⌝ }
 {
     let k = starts_of(planes, channel);
-    put_channel(out, 0, n, parts, w, k.r, map, pairs_of(ends, 0));
-    put_channel(out, TEXELS, n, parts, w, k.g, map, pairs_of(ends, 1));
-    put_channel(out, 2 * TEXELS, n, parts, w, k.b, map, pairs_of(ends, 2));
-    put_channel(out, 3 * TEXELS, n, parts, w, k.a, map, pairs_of(ends, 3));
+    put_channel(out, 0, n, parts, w, k.r, partitions, pairs_of(ends, 0));
+    put_channel(out, TEXELS, n, parts, w, k.g, partitions, pairs_of(ends, 1));
+    put_channel(out, 2 * TEXELS, n, parts, w, k.b, partitions, pairs_of(ends, 2));
+    put_channel(out, 3 * TEXELS, n, parts, w, k.a, partitions, pairs_of(ends, 3));
 }

@@ -21,11 +21,11 @@ use Rattle.params.specs.Params.{legal, paramsOf, endsField, weightsField}
 use Rattle.params.specs.Laws.{SameParams, answer-is, legal-is, one-answer, local}
 use Rattle.params.specs.declared.Params.{Params}
 use Rattle.endpoints_colours.specs.Colours.{markOf, firstOf, secondOf}
-use Rattle.endpoints_colours.specs.Bounds.{limit, Within as EndsWithin}
+use Rattle.endpoints_colours.specs.Bounds.{limit, InLimits}
 use Rattle.endpoints_colours.specs.declared.Mark.{Mark}
 use Rattle.endpoints_colours.specs.declared.Mark.the-variants.{Ldr}
 use Rattle.endpoints_colours.specs.declared.Endpoints.{Endpoints}
-use Rattle.blend.specs.BlendLaws.{Within, ldr-within}
+use Rattle.blend.specs.BlendLaws.{Between, ldr-within}
 use Rattle.texels.specs.Texels.{channelBy, wordBy}
 use Rattle.texels.specs.TexelLaws.{texel-is}
 use Rattle.texels.specs.PaintLaws.{channel-byte, low-lane, high-lane, limit-of}
@@ -41,22 +41,22 @@ use Rattle.texels_numbers.specs.Numbers.{fourOf}
 use Rattle.texels_numbers.specs.NumberLaws.{fours-same}
 use Rattle.block_channels.specs.BlockChannels.{blockSamples, roomOf, numbersOf, marksIn}
 use Rattle.block.specs.Block.{wordOfParams, blockWord, wordAt, paintedOf}
-use Rattle.theorems.specs.Demands.{In, WidestRange, channelIn, infilled, endsAt, Bounded}
+use Rattle.theorems.specs.Demands.{In, WidestRange, channelIn, infilled, endsAt, InBounds}
 
 -- ---- the fields stand one after the other
 module _ (m : BlockMap) (f : InOrder m) where
   -- the field in which bit k stands, if any
   fieldAt : ℕ → ℕ
-  fieldAt k = cond (ltb k (m .endat)) 0 (cond (ltb k (m .extraat)) 1 (cond (ltb k (m .weightat)) 2 3))
+  fieldAt k = cond (ltb k (m .«end_at»)) 0 (cond (ltb k (m .«extra_at»)) 1 (cond (ltb k (m .«weight_at»)) 2 3))
 
   field-is : (i k : ℕ) → In m i k → i ≡ fieldAt k
   unfolding fieldAt
-  field-is zero k h = rw (lt-ltb k (m .endat) (omega (arith, f .first, f .ends, h .1)))
-  field-is (suc zero) k h = rw (le-ltb k (m .endat) (h .0), lt-ltb k (m .extraat) (omega (arith, f .extra, h .1)))
+  field-is zero k h = rw (lt-ltb k (m .«end_at») (omega (arith, f .first, f .ends, h .1)))
+  field-is (suc zero) k h = rw (le-ltb k (m .«end_at») (h .0), lt-ltb k (m .«extra_at») (omega (arith, f .extra, h .1)))
   field-is (suc (suc zero)) k h =
-      rw (le-ltb k (m .endat) (omega (arith, f .extra, h .0)), le-ltb k (m .extraat) (h .0), lt-ltb k (m .weightat) (omega (arith, f .weights, h .1)))
+      rw (le-ltb k (m .«end_at») (omega (arith, f .extra, h .0)), le-ltb k (m .«extra_at») (h .0), lt-ltb k (m .«weight_at») (omega (arith, f .weights, h .1)))
   field-is (suc (suc (suc zero))) k h =
-      rw (le-ltb k (m .endat) (omega (arith, f .extra, f .weights, h .0)), le-ltb k (m .extraat) (omega (arith, f .weights, h .0)), le-ltb k (m .weightat) (h .0))
+      rw (le-ltb k (m .«end_at») (omega (arith, f .extra, f .weights, h .0)), le-ltb k (m .«extra_at») (omega (arith, f .weights, h .0)), le-ltb k (m .«weight_at») (h .0))
   field-is (suc (suc (suc (suc i)))) k h = absurd (no (h .1))
     where
       no : k < 0 → ⊥
@@ -70,7 +70,7 @@ module _ (m : BlockMap) (f : InOrder m) where
   field-within (suc (suc (suc (suc i)))) k h = omega (arith, h .1)
 
 -- ---- the range
-range-fits : (v : ℕ) (foot : Footprint) → paramsOf v foot .answer ≡ 0 → WidestRange (mapOf v foot) (paramsOf v foot .config .values) (paramsOf v foot .range)
+range-fits : (v : ℕ) (foot : Footprint) → paramsOf v foot .answer ≡ 0 → WidestRange (mapOf v foot) (paramsOf v foot .config .values) (paramsOf v foot .«endpoint_range»)
 unfolding legal legalMap
 range-fits v foot e =
     let t = fieldsOf v in
@@ -87,7 +87,7 @@ range-fits v foot e =
     })
 
 -- ---- LDR channels
-ldr-channel : (m : Mark) (e0 e1 w : ℕ) → m ≡ Ldr → e0 < limit m → e1 < limit m → w ≤ 64 → Within e0 e1 (channelBy m e0 e1 w)
+ldr-channel : (m : Mark) (e0 e1 w : ℕ) → m ≡ Ldr → e0 < limit m → e1 < limit m → w ≤ 64 → Between e0 e1 (channelBy m e0 e1 w)
 unfolding channelBy
 ldr-channel m e0 e1 w p h l k =
     let h′ : e0 < 256 = limit-of p h in
@@ -111,7 +111,7 @@ module _ (e : Endpoints) (r g b a : ℕ) where
   unfolding bitsAt
   alpha-of = omega (arith, high-lane e r g b a, channel-byte (e .color) (e .r0) (e .r1) r, channel-byte (e .alpha) (e .a0) (e .a1) a)
 
-  between-ends : EndsWithin e → r ≤ 64 → g ≤ 64 → b ≤ 64 → a ≤ 64 → (c : ℕ) → c < 4 → markOf e c ≡ Ldr → Within (firstOf e c) (secondOf e c) (channelIn (wordBy e r g b a) c)
+  between-ends : InLimits e → r ≤ 64 → g ≤ 64 → b ≤ 64 → a ≤ 64 → (c : ℕ) → c < 4 → markOf e c ≡ Ldr → Between (firstOf e c) (secondOf e c) (channelIn (wordBy e r g b a) c)
   between-ends w hr hg hb ha zero l m = rw red-of (ldr-channel (e .color) _ _ r m (w .r0) (w .r1) hr)
   between-ends w hr hg hb ha (suc zero) l m = rw green-of (ldr-channel (e .color) _ _ g m (w .g0) (w .g1) hg)
   between-ends w hr hg hb ha (suc (suc zero)) l m = rw blue-of (ldr-channel (e .color) _ _ b m (w .b0) (w .b1) hb)
@@ -131,7 +131,7 @@ unfolding blockWord
 block-word v foot t z = legal-word (paramsOf v foot) v foot t z
 
 channels-within : (s : List ℕ) (foot : Footprint) → paramsOf (bytes 16 s) foot .answer ≡ 0 → Facts (paramsOf (bytes 16 s) foot) → (t c : ℕ) → c < 4 → markOf (endsAt s foot t) c ≡ Ldr
-    → Within (firstOf (endsAt s foot t) c) (secondOf (endsAt s foot t) c) (channelIn (wordAt s foot t) c)
+    → Between (firstOf (endsAt s foot t) c) (secondOf (endsAt s foot t) c) (channelIn (wordAt s foot t) c)
 unfolding wordAt ordinaryWord
 channels-within s foot z f t c h m =
     let p = paramsOf (bytes 16 s) foot in
@@ -202,7 +202,7 @@ mapped-bits : (m : BlockMap) (v w : ℕ) → ((i k : ℕ) → In m i k → bitsA
 mapped-bits m v w h k = ⊎-elim (λ a. h 0 k a) (⊎-elim (λ a. h 1 k a) (⊎-elim (λ a. h 2 k a) (λ a. h 3 k a)))
 
 -- ---- the theorem
-pub demand-3 : (s : List ℕ) (foot : Footprint) → blockMap s foot .answer ≡ 0 → Bounded s foot
+pub demand-3 : (s : List ℕ) (foot : Footprint) → blockMap s foot .answer ≡ 0 → InBounds s foot
 demand-3 s foot z =
     let l = legal-map s foot z in
     let v = bytes 16 s in

@@ -13,7 +13,7 @@ use Rattle.params.specs.declared.Params.{Params}
 use Rattle.endpoints_colours.specs.Colours.{nothing, markOf, firstOf, secondOf}
 use Rattle.endpoints_colours.specs.declared.Mark.the-variants.{Ldr}
 use Rattle.endpoints_colours.specs.declared.Endpoints.{Endpoints}
-use Rattle.blend.specs.BlendLaws.{Within}
+use Rattle.blend.specs.BlendLaws.{Between}
 use Rattle.footprint.specs.declared.Footprint.{Footprint}
 use Rattle.block_ordinary.specs.Ordinary.{endsOf, weightsIn, partitionsIn}
 use Rattle.block_map.specs.Answer.{answerOf, blockMap}
@@ -22,10 +22,10 @@ use Rattle.block_channels.specs.BlockChannels.{numbersOf, marksIn}
 
 -- ---- the fields of a map: 0 is the low configuration, 1 the endpoints, 2 the extra field, 3 the weights
 abbrev pub startOf : BlockMap → ℕ → ℕ
-startOf m i = getD (m .lowat ∷ m .endat ∷ m .extraat ∷ m .weightat ∷ []) i 0
+startOf m i = getD (m .«low_at» ∷ m .«end_at» ∷ m .«extra_at» ∷ m .«weight_at» ∷ []) i 0
 
 abbrev pub lengthOf : BlockMap → ℕ → ℕ
-lengthOf m i = getD (m .lowlen ∷ m .endlen ∷ m .extralen ∷ m .weightlen ∷ []) i 0
+lengthOf m i = getD (m .«low_len» ∷ m .«end_len» ∷ m .«extra_len» ∷ m .«weight_len» ∷ []) i 0
 
 -- bit k stands in field i
 abbrev pub In : BlockMap → ℕ → ℕ → Type 0
@@ -40,9 +40,9 @@ pub record WidestRange (m : BlockMap) (n q : ℕ) : Type 0 where
   pub least : 4 ≤ q
   pub most : q ≤ 20
   pub top : m .top ≡ topOf q
-  pub length : m .endlen ≡ cost q n
-  pub fits : m .endat + cost q n ≤ m .extraat
-  pub widest : (r : ℕ) → q < r → r ≤ 20 → m .extraat < m .endat + cost r n
+  pub length : m .«end_len» ≡ cost q n
+  pub fits : m .«end_at» + cost q n ≤ m .«extra_at»
+  pub widest : (r : ℕ) → q < r → r ≤ 20 → m .«extra_at» < m .«end_at» + cost r n
 
 -- ---- a channel of a word: 0 to 3 for red, green, blue and alpha
 abbrev pub channelIn : ℕ → ℕ → ℕ
@@ -60,7 +60,7 @@ abbrev pub endsAt : List ℕ → Footprint → ℕ → Endpoints
 endsAt s foot t = getD (endsOf (params s foot) (endsField (params s foot) (bytes 16 s))) (getD (partitionsIn (params s foot) foot) t 0) nothing
 
 -- ---- what two blocks share at a footprint, whatever the room and the output
-pub record Same (s s′ : List ℕ) (foot : Footprint) : Type 0 where
+pub record SameOutcome (s s′ : List ℕ) (foot : Footprint) : Type 0 where
   pub answer : (room : ℕ) → answerOf s foot room ≡ answerOf s′ foot room
   pub map : blockMap s foot ≡ blockMap s′ foot
   pub words : (out : List ℕ) → paintedOf s foot out ≡ paintedOf s′ foot out
@@ -68,16 +68,16 @@ pub record Same (s s′ : List ℕ) (foot : Footprint) : Type 0 where
   pub marks : (places : ℕ) (floats : List ℕ) → marksIn s foot places floats ≡ marksIn s′ foot places floats
 
 -- ---- the demand
-pub record Bounded (s : List ℕ) (foot : Footprint) : Type 0 where
+pub record InBounds (s : List ℕ) (foot : Footprint) : Type 0 where
   -- its fields lie within the 128 bits, and share no bit
   pub within : (i k : ℕ) → In (blockMap s foot) i k → k < 128
   pub disjoint : (i j k : ℕ) → In (blockMap s foot) i k → In (blockMap s foot) j k → i ≡ j
   -- its endpoint range is the widest that fits
-  pub range : WidestRange (blockMap s foot) (params s foot .config .values) (params s foot .range)
+  pub range : WidestRange (blockMap s foot) (params s foot .config .values) (params s foot .«endpoint_range»)
   -- infilled weights are in 0..64
   pub weights : (i : ℕ) → getD (infilled s foot) i 0 ≤ 64
   -- LDR channels lie between their endpoints
   pub channels : (t c : ℕ) → c < 4 → markOf (endsAt s foot t) c ≡ Ldr
-      → Within (firstOf (endsAt s foot t) c) (secondOf (endsAt s foot t) c) (channelIn (wordAt s foot t) c)
+      → Between (firstOf (endsAt s foot t) c) (secondOf (endsAt s foot t) c) (channelIn (wordAt s foot t) c)
   -- no bit outside the map changes anything
-  pub local : (s′ : List ℕ) → length s′ ≡ 16 → ((i k : ℕ) → In (blockMap s foot) i k → bitOf s k ≡ bitOf s′ k) → Same s s′ foot
+  pub local : (s′ : List ℕ) → length s′ ≡ 16 → ((i k : ℕ) → In (blockMap s foot) i k → bitOf s k ≡ bitOf s′ k) → SameOutcome s s′ foot

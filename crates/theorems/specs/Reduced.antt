@@ -29,7 +29,7 @@ use Rattle.channels.specs.declared.Channel.the-variants.{Byte, Float}
 use Rattle.channels.specs.declared.Texel.{Texel}
 use Rattle.channels.specs.declared.Rule.{Rule}
 use Rattle.channels.specs.declared.Rule.the-variants.{Ordinary, Void}
-use Rattle.endpoints_colours.specs.Bounds.{Within, limit}
+use Rattle.endpoints_colours.specs.Bounds.{InLimits, limit}
 use Rattle.endpoints_colours.specs.Colours.{nothing, markOf as endsMark, firstOf, secondOf}
 use Rattle.endpoints_colours.specs.declared.Mark.{Mark}
 use Rattle.endpoints_colours.specs.declared.Mark.the-variants.{Ldr, Hdr}
@@ -67,7 +67,7 @@ channel-reduced : (m : Mark) (v0 v1 w : ℕ) → v0 < limit m → v1 < limit m �
 channel-reduced Ldr v0 v1 w h l b = refl
 channel-reduced Hdr v0 v1 w h l b = sym (hdr-reduced (finite (hdrHalf v0 v1 w)) ∙ finite-byte (hdrHalf v0 v1 w) (hdr-half-lt v0 v1 w h l b))
 
-module _ (ends : List Endpoints) (weights map : List ℕ) (planes channel t : ℕ) (within : (i : ℕ) → Within (getD ends i nothing)) (light : (i : ℕ) → getD weights i 0 ≤ 64) where
+module _ (ends : List Endpoints) (weights map : List ℕ) (planes channel t : ℕ) (within : (i : ℕ) → InLimits (getD ends i nothing)) (light : (i : ℕ) → getD weights i 0 ≤ 64) where
   texel-reduced : (k : ℕ) → k < 4
       → crateReduction (blendedAt ends weights map planes channel t k .mark) (blendedAt ends weights map planes channel t k .value) ≡ reducedBy Ordinary (channelOf (texelSample ends weights map planes channel t k))
   unfolding texelSample

@@ -41,7 +41,7 @@ use Rattle.endpoints_rules.specs.Hdr.{sevenOf}
 use Rattle.endpoints_rules.specs.Modes.{endpointsOf}
 use Rattle.endpoints_rules.specs.declared.Seven.{Seven}
 use Rattle.endpoints_hdr_seven.specs.HdrLaws.{Below}
-use Rattle.endpoints_hdr_eleven.specs.Hdr11Laws.{elevenOf, Small}
+use Rattle.endpoints_hdr_eleven.specs.Hdr11Laws.{elevenOf, ElevenBounds}
 use Rattle.endpoints_hdr_eleven.specs.declared.Eleven.{Eleven}
 use Rattle.endpoints.specs.Endpoints.{endpointsList}
 use Rattle.weights_unquantise.specs.Unquantise.{weightOf}
@@ -252,7 +252,7 @@ decode-ldr m v = one Endpoints (endpointsOf m v)
 pub parts-of-seven : (m v0 v1 v2 v3 : ℕ) → Tight Seven (λ r. (r ≡ sevenOf m v0 v1 v2 v3) × (Below 4096 r))
 parts-of-seven m v0 v1 v2 v3 r s p q = p .0 ∙ sym (q .0)
 
-pub parts-of-eleven : (m : ℕ) (v : Values) → Tight Eleven (λ r. (r ≡ elevenOf m v) × (Small r))
+pub parts-of-eleven : (m : ℕ) (v : Values) → Tight Eleven (λ r. (r ≡ elevenOf m v) × (ElevenBounds r))
 parts-of-eleven m v r s p q = p .0 ∙ sym (q .0)
 
 pub decode-hdr : (m : ℕ) (v : Values) → Tight Endpoints (λ r. r ≡ endpointsOf m v)

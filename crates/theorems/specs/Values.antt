@@ -59,7 +59,7 @@ pub record Values : Type 0 where
   -- red, green, blue 255, 84, then fourteen 0; alpha 255; the word after them stays
   pub P1 : answerOf p1 (footprint 4 4) 17 ≡ 0
   pub P1-words : paintedOf p1 (footprint 4 4) before ≡ after (wordOf 255 255 255 255 ∷ wordOf 84 84 84 255 ∷ replicate 14 (wordOf 0 0 0 255))
-  pub P2 : blockMap p1 (footprint 4 4) ≡ record { answer = 0; top = 255; lowat = 0; lowlen = 17; endat = 17; endlen = 16; extraat = 96; extralen = 0; weightat = 96; weightlen = 32 }
+  pub P2 : blockMap p1 (footprint 4 4) ≡ record { answer = 0; top = 255; «low_at» = 0; «low_len» = 17; «end_at» = 17; «end_len» = 16; «extra_at» = 96; «extra_len» = 0; «weight_at» = 96; «weight_len» = 32 }
   pub P2-words : paintedOf p2 (footprint 4 4) before ≡ paintedOf p1 (footprint 4 4) before
   pub P3 : answerOf p3 (footprint 4 4) 17 ≡ 1
   pub P3-words : paintedOf p3 (footprint 4 4) before ≡ after (replicate 16 (wordOf 0 128 64 255))

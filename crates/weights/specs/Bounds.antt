@@ -15,7 +15,7 @@ use Rattle.weights_unquantise.specs.UnquantiseLaws.{weight-le}
 use Rattle.weights_infill.specs.Infill.{infillAt, texelOf, infillOf}
 use Rattle.weights_infill.specs.InfillLaws.{infilled-le, factors-total, four-le}
 use Rattle.weights.specs.Weights.{gridOf, weightAt, weightsOf}
-use Rattle.weights.specs.Given.{Encoded}
+use Rattle.weights.specs.WeightsGiven.{Encoded}
 use Rattle.weights_grid.specs.declared.Grid.{Grid}
 use Rattle.footprint.specs.Footprints.{texelsOf, mostTexels, mostWeights}
 

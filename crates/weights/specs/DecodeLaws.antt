@@ -20,7 +20,7 @@ use Rattle.weights_grid.specs.GridLaws.{sides-in}
 use Rattle.weights_infill.specs.Infill.{pointOf, infillAt, texelOf, infillOf}
 use Rattle.weights_infill_down.specs.DownLaws.{point-at, point-one}
 use Rattle.weights.specs.Weights.{gridOf, weightsOf}
-use Rattle.weights.specs.Given.{Encoded}
+use Rattle.weights.specs.WeightsGiven.{Encoded}
 use Rattle.weights.specs.Parted.{partedTo}
 use Rattle.weights_grid.specs.declared.Grid.{Grid}
 use Rattle.footprint.specs.Footprints.{texelsOf, mostTexels, mostWeights}

@@ -1,5 +1,5 @@
 pub mod Weights
-pub mod Given
+pub mod WeightsGiven
 pub mod Parted
 pub mod DecodeLaws
 pub mod Bounds

@@ -7,7 +7,7 @@ ghost use lib.ListN.{replicate};
 ghost use Rattle.laws.specs.Lists.{listOf};
 ghost use Rattle.weights_grid.specs.Grids.{countOf};
 ghost use Rattle.weights.specs.Weights.{weightsOf};
-ghost use Rattle.weights.specs.Given.{Given};
+ghost use Rattle.weights.specs.WeightsGiven.{WeightsGiven};
 ghost use Rattle.weights.specs.Parted.{partedTo};
 ghost use Rattle.footprint.specs.Footprints.{mostTexels, mostWeights};
 ghost use Rattle.lanes.specs.Lanes.{eights};
@@ -27,7 +27,7 @@ fn is_wide(g: Grid) -> bool
 
 // A grid as wide as the footprint needs no columns, and one that is the footprint no infill.
 fn decode_wide(out: &mut [u8; WEIGHTS], g: Grid, n: usize, q: usize, seq: &[u8; 72])
-    requires { ⌜ (Given g q (now seq) (now out)) × (n ≡ countOf g) × (g .planes ≡ 1) × (g .width ≡ g .footprint .width) ⌝ }
+    requires { ⌜ (WeightsGiven g q (now seq) (now out)) × (n ≡ countOf g) × (g .planes ≡ 1) × (g .width ≡ g .footprint .width) ⌝ }
     ensures { λ _. ⌜ now (out .exit) ≡ weightsOf g q (now (seq .entry)) ⌝ }
 {
     if g.height == g.footprint.height {
@@ -67,7 +67,7 @@ fn part_planes(out: &mut [u8; WEIGHTS], n: usize, wv: &[u8; WEIGHTS])
 
 // A grid of two planes that is the footprint needs no infill.
 fn decode_planes(out: &mut [u8; WEIGHTS], g: Grid, n: usize, q: usize, seq: &[u8; 72])
-    requires { ⌜ (Given g q (now seq) (now out)) × (n ≡ countOf g) × (g .planes ≡ 2) × (g .width ≡ g .footprint .width) × (g .height ≡ g .footprint .height) ⌝ }
+    requires { ⌜ (WeightsGiven g q (now seq) (now out)) × (n ≡ countOf g) × (g .planes ≡ 2) × (g .width ≡ g .footprint .width) × (g .height ≡ g .footprint .height) ⌝ }
     ensures { λ _. ⌜ now (out .exit) ≡ weightsOf g q (now (seq .entry)) ⌝ }
 {
     let mut wv = [0u8; WEIGHTS];
@@ -77,7 +77,7 @@ fn decode_planes(out: &mut [u8; WEIGHTS], g: Grid, n: usize, q: usize, seq: &[u8
 
 // Any grid.
 fn decode_any(out: &mut [u8; WEIGHTS], g: Grid, n: usize, q: usize, seq: &[u8; 72])
-    requires { ⌜ (Given g q (now seq) (now out)) × (n ≡ countOf g) ⌝ }
+    requires { ⌜ (WeightsGiven g q (now seq) (now out)) × (n ≡ countOf g) ⌝ }
     ensures { λ _. ⌜ now (out .exit) ≡ weightsOf g q (now (seq .entry)) ⌝ }
 {
     let mut wv = [0u8; WEIGHTS];
@@ -88,7 +88,7 @@ fn decode_any(out: &mut [u8; WEIGHTS], g: Grid, n: usize, q: usize, seq: &[u8; 7
 // Puts the weights of the texels into out, the first plane's from 0 on, the second's from TEXELS on; seq has the
 // grid's encoded weights, of range q.
 pub fn decode_weights(out: &mut [u8; WEIGHTS], g: Grid, q: usize, seq: &[u8; 72])
-    requires { ⌜ Given g q (now seq) (now out) ⌝ }
+    requires { ⌜ WeightsGiven g q (now seq) (now out) ⌝ }
     ensures { λ _. ⌜ now (out .exit) ≡ weightsOf g q (now (seq .entry)) ⌝ }
 {
     let n = g.width * g.height * g.planes;

@@ -13,13 +13,13 @@ use footprint::WEIGHTS;
 use weights_grid::Grid;
 
 // A cast in a function of its own: its caller need not show that a byte fits.
-fn wide(x: u8) -> u16
+fn u16_of(x: u8) -> u16
     ensures { λ r. ⌜ (r ≡ x) × (r < 256) ⌝ }
 {
     x as u16
 }
 
-fn long(x: u16) -> usize
+fn usize_of(x: u16) -> usize
     ensures { λ r. ⌜ r ≡ x ⌝ }
 {
     x as usize
@@ -52,7 +52,7 @@ fn neighbours(out: &mut [u16; 72], n: usize, planes: usize, wv: &[u8; WEIGHTS])
     let m = lanes::eights(n);
     let mut i = 0;
     while i < m {
-        out[i] = wide(wv[i]) + 256 * wide(wv[i + planes]);
+        out[i] = u16_of(wv[i]) + 256 * u16_of(wv[i + planes]);
         i += 1;
     }
 }
@@ -71,7 +71,7 @@ fn spread_row(
 {
     let mut s = 0;
     while s < width {
-        out[o + s] = next[k + long(at[s])];
+        out[o + s] = next[k + usize_of(at[s])];
         s += 1;
     }
 }
@@ -138,7 +138,7 @@ fn fill_rows(out: &mut [u8; WEIGHTS], g: Grid, pairs: &[u16; 208], part: &[u16; 
     let mut t = 0;
     while t < g.footprint.height {
         let p = weights_grid::place(d, t as u16, height);
-        fill_row(out, o, m, pairs, long(p / 16 * 16), part, p % 16);
+        fill_row(out, o, m, pairs, usize_of(p / 16 * 16), part, p % 16);
         o += g.footprint.width;
         t += 1;
     }

@@ -11,13 +11,13 @@ use footprint::WEIGHTS;
 use weights_grid::Grid;
 
 // A cast in a function of its own: its caller need not show that a byte fits.
-fn wide(x: u8) -> u16
+fn u16_of(x: u8) -> u16
     ensures { λ r. ⌜ (r ≡ x) × (r < 256) ⌝ }
 {
     x as u16
 }
 
-fn long(x: u16) -> usize
+fn usize_of(x: u16) -> usize
     ensures { λ r. ⌜ r ≡ x ⌝ }
 {
     x as usize
@@ -40,7 +40,7 @@ fn down(a: u8, b: u8, h: u16) -> u16
     requires { ⌜ h < 16 ⌝ }
     ensures { λ r. ⌜ (r ≡ downTo a b h) × (r < 256) ⌝ }
 {
-    (wide(a) * (16 - h) + wide(b) * h + 8) / 16
+    (u16_of(a) * (16 - h) + u16_of(b) * h + 8) / 16
 }
 
 // As fill_row, where the columns are the grid's.
@@ -83,7 +83,7 @@ pub fn fill_down(out: &mut [u8; WEIGHTS], g: Grid, wv: &[u8; WEIGHTS])
             o,
             m,
             wv,
-            long(p / 16) * g.width,
+            usize_of(p / 16) * g.width,
             g.width,
             &keep,
             p % 16,

@@ -8,7 +8,7 @@ ghost use Rattle.sequence_ranges.specs.Ranges.{rangeOf, levels};
 use footprint::WEIGHTS;
 
 // A cast in a function of its own: its caller need not show that a byte fits.
-fn wide(x: u8) -> u16
+fn u16_of(x: u8) -> u16
     ensures { λ r. ⌜ (r ≡ x) × (r < 256) ⌝ }
 {
     x as u16
@@ -38,7 +38,7 @@ fn plain_all(out: &mut [u8; WEIGHTS], n: usize, by: u16, over: u16, seq: &[u8; 7
     let m = lanes::eights(n);
     let mut i = 0;
     while i < m {
-        let v = wide(seq[i]);
+        let v = u16_of(seq[i]);
         out[i] = raise((v * by + (v >> over)) % 64);
         i += 1;
     }
@@ -73,7 +73,7 @@ fn mixed_all(out: &mut [u8; WEIGHTS], n: usize, bits: u16, c: u16, by: u16, seq:
     let m = lanes::eights(n);
     let mut i = 0;
     while i < m {
-        let v = wide(seq[i]);
+        let v = u16_of(seq[i]);
         out[i] = raise(turn(v % 2, sum(v, bits, c, by)));
         i += 1;
     }

@@ -25,7 +25,7 @@ unquantize-requires c κs =
     let k = s .args .p .config in
     let e = c .before .before .before .range-of .ensures in
     let d = c .before .before .decode-intseq .ensures in
-    let w : ℕ = bitsAt (valueOf (s .args .b)) (k .lowlen) (totalOf (c .before .before .before .range-of .result) (k .values)) in
+    let w : ℕ = bitsAt (valueOf (s .args .b)) (k .«low_len») (totalOf (c .before .before .before .range-of .result) (k .values)) in
     (refl, ((f .values, f .least, f .most), (below _ w _ _ _ e d, past w _ _ _ d)))
 
 decode-endpoints-requires : tie.Need-decode-endpoints-requires

@@ -1,6 +1,6 @@
 -- Each way out is a law of ImageLaws.
 use Rattle.image_shape.specs.ShapeLaws.{bounded-of, out-21, out-wide, out-high, out-31, out-22, out-0}
-use Rattle.image_shape.specs.ShapeLaws.{Bounded}
+use Rattle.image_shape.specs.ShapeLaws.{ShapeBounds}
 use native.Mathlib.Nat.{mul-le-mul}
 use native.Mathlib.Omega.{arith}
 use mathlib.Core.Path.{sym, _∙_}
@@ -27,7 +27,7 @@ returns : tie.Need-returns
 returns c = let t = c .before .before in out-31 _ _ _ (sym (t .before .before .before .before .before .is-listed .ensures) ∙ t .before .before .before .before .if1 .taken) _ (sym (t .before .before .before .is-side .ensures) ∙ t .before .before .if2 .taken) (sym (t .before .is-side2 .ensures) ∙ t .if3 .taken) (c .before .total .ensures .0) (c .if4 .taken)
 
 mul-if5 : tie.Need-mul-if5
-mul-if5 c = let t = c .before .before .before in let s : Bounded (t .before .before .before .before .before .before .args .m) = bounded-of _ (sym (t .before .before .before .before .before .is-listed .ensures) ∙ t .before .before .before .before .if1 .taken) (sym (t .before .before .before .is-side .ensures) ∙ t .before .before .if2 .taken) (sym (t .before .is-side2 .ensures) ∙ t .if3 .taken) in omega (arith, mul-le-mul (s .width .1) (s .height .1))
+mul-if5 c = let t = c .before .before .before in let s : ShapeBounds (t .before .before .before .before .before .before .args .m) = bounded-of _ (sym (t .before .before .before .before .before .is-listed .ensures) ∙ t .before .before .before .before .if1 .taken) (sym (t .before .before .before .is-side .ensures) ∙ t .before .before .if2 .taken) (sym (t .before .is-side2 .ensures) ∙ t .if3 .taken) in omega (arith, mul-le-mul (s .width .1) (s .height .1))
 
 returns-2 : tie.Need-returns-2
 returns-2 c = let t = c .before .before .before .before in out-22 _ _ _ (sym (t .before .before .before .before .before .is-listed .ensures) ∙ t .before .before .before .before .if1 .taken) _ (sym (t .before .before .before .is-side .ensures) ∙ t .before .before .if2 .taken) (sym (t .before .is-side2 .ensures) ∙ t .if3 .taken) (c .before .before .before .total .ensures .0) (c .before .before .if4 .left) (c .if5 .taken)

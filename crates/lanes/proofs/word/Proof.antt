@@ -3,32 +3,32 @@ use borrow.Author.Needs.{needs}
 use Rattle.lanes.proofs.word.Statement.{statement}
 use Rattle.lanes.proofs.word.Tie as tie
 
-mul-long : tie.Need-mul-long
-mul-long c = search needs
+mul-u32-of : tie.Need-mul-u32-of
+mul-u32-of c = search needs
 
-mul-long-2 : tie.Need-mul-long-2
-mul-long-2 c = search needs
+mul-u32-of-2 : tie.Need-mul-u32-of-2
+mul-u32-of-2 c = search needs
 
-element-copy-out-long : tie.Need-element-copy-out-long
-element-copy-out-long c = search needs
+element-copy-out-u32-of : tie.Need-element-copy-out-u32-of
+element-copy-out-u32-of c = search needs
 
-long-requires : tie.Need-long-requires
-long-requires c κs = search needs
+u32-of-requires : tie.Need-u32-of-requires
+u32-of-requires c κs = search needs
 
-mul-long-3 : tie.Need-mul-long-3
-mul-long-3 c = search needs
+mul-u32-of-3 : tie.Need-mul-u32-of-3
+mul-u32-of-3 c = search needs
 
-add-long : tie.Need-add-long
-add-long c = search needs
+add-u32-of : tie.Need-add-u32-of
+add-u32-of c = search needs
 
-mul-long-4 : tie.Need-mul-long-4
-mul-long-4 c = search needs
+mul-u32-of-4 : tie.Need-mul-u32-of-4
+mul-u32-of-4 c = search needs
 
-element-copy-out-long-2 : tie.Need-element-copy-out-long-2
-element-copy-out-long-2 c = search needs
+element-copy-out-u32-of-2 : tie.Need-element-copy-out-u32-of-2
+element-copy-out-u32-of-2 c = search needs
 
-long-requires-2 : tie.Need-long-requires-2
-long-requires-2 c κs = search needs
+u32-of-requires-2 : tie.Need-u32-of-requires-2
+u32-of-requires-2 c κs = search needs
 
 mul-result : tie.Need-mul-result
 mul-result c = search needs
@@ -43,15 +43,15 @@ pub word-spec : {M : Type 1} → statement M
 word-spec =
     tie.close
     (tie.spec
-    mul-long
-    mul-long-2
-    element-copy-out-long
-    long-requires
-    mul-long-3
-    add-long
-    mul-long-4
-    element-copy-out-long-2
-    long-requires-2
+    mul-u32-of
+    mul-u32-of-2
+    element-copy-out-u32-of
+    u32-of-requires
+    mul-u32-of-3
+    add-u32-of
+    mul-u32-of-4
+    element-copy-out-u32-of-2
+    u32-of-requires-2
     mul-result
     add-result
     returns)

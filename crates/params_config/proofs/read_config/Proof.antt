@@ -12,17 +12,17 @@ grid-of-requires c κs = search needs
 r-of-requires : tie.Need-r-of-requires
 r-of-requires c κs = search needs
 
-sub-range : tie.Need-sub-range
-sub-range c = omega (arith, r-least (c .before .before .args .c) (c .before .before .pre))
+sub-weight-range : tie.Need-sub-weight-range
+sub-weight-range c = omega (arith, r-least (c .before .before .args .c) (c .before .before .pre))
 
 h-of-requires : tie.Need-h-of-requires
 h-of-requires c κs = search needs
 
-mul-range : tie.Need-mul-range
-mul-range c = omega (arith, h-most (c .before .before .before .args .c))
+mul-weight-range : tie.Need-mul-weight-range
+mul-weight-range c = omega (arith, h-most (c .before .before .before .args .c))
 
-add-range : tie.Need-add-range
-add-range c = omega (arith, h-most (c .before .before .before .args .c), r-most (c .before .before .before .args .c))
+add-weight-range : tie.Need-add-weight-range
+add-weight-range c = omega (arith, h-most (c .before .before .before .args .c), r-most (c .before .before .before .args .c))
 
 d-of-requires : tie.Need-d-of-requires
 d-of-requires c κs = search needs
@@ -49,10 +49,10 @@ read-config-spec =
     (tie.spec
     grid-of-requires
     r-of-requires
-    sub-range
+    sub-weight-range
     h-of-requires
-    mul-range
-    add-range
+    mul-weight-range
+    add-weight-range
     d-of-requires
     add-planes
     read-partitions-requires

@@ -2,7 +2,7 @@
 use mir.Val.{Fits}
 use mir.Syntax.{w64}
 use Prim.Native.Nat.{_*_}
-use Rattle.params_config.specs.Bounds.{Small}
+use Rattle.params_config.specs.Bounds.{ConfigBounds}
 use Rattle.params_config.specs.declared.Config.{Config}
 use native.Mathlib.Nat.{mul-le-mul}
 use native.Mathlib.Omega.{arith}
@@ -11,10 +11,10 @@ use Rattle.params_rules.specs.RuleLaws.{on-width, on-height, on-many, on
 use Rattle.params_rules.proofs.judge.Statement.{statement}
 use Rattle.params_rules.proofs.judge.Tie as tie
 
-side : (k : Config) → Small k → Fits w64 (k .width * k .height)
+side : (k : Config) → ConfigBounds k → Fits w64 (k .width * k .height)
 side k s = omega (arith, mul-le-mul (s .width) (s .height))
 
-whole : (k : Config) → Small k → Fits w64 (weights k)
+whole : (k : Config) → ConfigBounds k → Fits w64 (weights k)
 whole k s = omega (arith, mul-le-mul (mul-le-mul (s .width) (s .height)) (s .planes))
 
 returns : tie.Need-returns

@@ -18,20 +18,20 @@ loop-holds : tie.Need-loop-holds Inv-loop μ-loop
 unfolding countTo
 loop-holds c = (omega arith, (refl, omega arith))
 
-array-read-wide : tie.Need-array-read-wide Inv-loop μ-loop
-array-read-wide c = omega arith
+array-read-usize-of : tie.Need-array-read-usize-of Inv-loop μ-loop
+array-read-usize-of c = omega arith
 
-wide-requires : tie.Need-wide-requires Inv-loop μ-loop
-wide-requires c κs = search needs
+usize-of-requires : tie.Need-usize-of-requires Inv-loop μ-loop
+usize-of-requires c κs = search needs
 
 add-n : tie.Need-add-n Inv-loop μ-loop
-add-n c = omega (arith, c .wide .ensures .1)
+add-n c = omega (arith, c .usize-of .ensures .1)
 
 mul-n : tie.Need-mul-n Inv-loop μ-loop
-mul-n c = omega (arith, c .wide .ensures .1)
+mul-n c = omega (arith, c .usize-of .ensures .1)
 
 add-n-2 : tie.Need-add-n-2 Inv-loop μ-loop
-add-n-2 c = omega (arith, c .wide .ensures .1)
+add-n-2 c = omega (arith, c .usize-of .ensures .1)
 
 add-i : tie.Need-add-i Inv-loop μ-loop
 add-i c = omega arith
@@ -43,7 +43,7 @@ loop-again : tie.Need-loop-again Inv-loop μ-loop
 unfolding countTo
 loop-again c =
     let l = c .before .before .loop in
-    (omega arith, (rw (add-one (l .i), c .wide .ensures .0, l .inv .1 .0), omega (arith, c .wide .ensures .1)))
+    (omega arith, (rw (add-one (l .i), c .usize-of .ensures .0, l .inv .1 .0), omega (arith, c .usize-of .ensures .1)))
 
 returns : tie.Need-returns Inv-loop μ-loop
 returns c = c .before .loop .inv .1 .0 ∙ ap (countTo (c .before .before .args .t1)) (omega arith)
@@ -55,8 +55,8 @@ count-to-spec =
     Inv-loop
     μ-loop
     loop-holds
-    array-read-wide
-    wide-requires
+    array-read-usize-of
+    usize-of-requires
     add-n
     mul-n
     add-n-2

@@ -5,10 +5,10 @@ use Rattle.program_leaves.proofs.put_partition.Statement.{statement}
 use Rattle.program_leaves.proofs.put_partition.Tie as tie
 
 abbrev Inv-loop : tie.InvT-loop
-Inv-loop out₀ map i₀ out i = Unit {0}
+Inv-loop out₀ partitions i₀ out i = Unit {0}
 
 abbrev μ-loop : tie.MeasureT-loop
-μ-loop out₀ map i₀ out i = 144 - i
+μ-loop out₀ partitions i₀ out i = 144 - i
 
 loop-holds : tie.Need-loop-holds Inv-loop μ-loop
 loop-holds c = search needs

@@ -1,5 +1,5 @@
 -- `program_leaves::reply_endpoints` meets its contract: four numbers below 16 are modes. Assumes nothing.
-use Rattle.program_leaves.specs.Encoded.{all-four}
+use Rattle.program_leaves.specs.ValuesIn.{all-four}
 use native.Mathlib.Omega.{arith}
 use borrow.Author.Needs.{needs}
 use Rattle.program_leaves.proofs.reply_endpoints.Statement.{statement}

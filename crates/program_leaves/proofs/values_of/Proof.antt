@@ -1,5 +1,5 @@
 -- `program_leaves::values_of` meets its contract: a decoded sequence is below its range, and 0 after its values. Assumes nothing.
-use Rattle.program_leaves.specs.Encoded.{decoded}
+use Rattle.program_leaves.specs.ValuesIn.{decoded}
 use borrow.Author.Needs.{needs}
 use Rattle.program_leaves.proofs.values_of.Statement.{statement}
 use Rattle.program_leaves.proofs.values_of.Tie as tie

@@ -7,17 +7,17 @@ use Rattle.program_listing.proofs.answer_of.Tie as tie
 returns : tie.Need-returns
 returns c = let s = c .before .before .before .args in short (s .bytes .now) (s .words .now) (c .if1 .taken)
 
-shared-slice-read-wide : tie.Need-shared-slice-read-wide
-shared-slice-read-wide c = search needs
+shared-slice-read-usize-of : tie.Need-shared-slice-read-usize-of
+shared-slice-read-usize-of c = search needs
 
-wide-requires : tie.Need-wide-requires
-wide-requires c κs = search needs
+usize-of-requires : tie.Need-usize-of-requires
+usize-of-requires c κs = search needs
 
-shared-slice-read-wide-2 : tie.Need-shared-slice-read-wide-2
-shared-slice-read-wide-2 c = search needs
+shared-slice-read-usize-of-2 : tie.Need-shared-slice-read-usize-of-2
+shared-slice-read-usize-of-2 c = search needs
 
-wide-requires-2 : tie.Need-wide-requires-2
-wide-requires-2 c κs = search needs
+usize-of-requires-2 : tie.Need-usize-of-requires-2
+usize-of-requires-2 c κs = search needs
 
 sub-decode-astc-block : tie.Need-sub-decode-astc-block
 sub-decode-astc-block c = search needs
@@ -38,17 +38,17 @@ returns-2 : tie.Need-returns-2
 returns-2 c =
     let d = c .before .before .decode-astc-block .ensures in
     let s = c .before .before .before .before .before .before .before .before .before .before .before .before .args in
-    whole (s .bytes .now) (s .words .now) _ _ _ _ (c .before .before .before .before .before .before .before .wide .ensures) (c .before .before .before .before .before .wide2 .ensures) (d .0) (d .1)
+    whole (s .bytes .now) (s .words .now) _ _ _ _ (c .before .before .before .before .before .before .before .usize-of .ensures) (c .before .before .before .before .before .usize-of2 .ensures) (d .0) (d .1)
 
 pub answer-of-spec : {M : Type 1} → statement M
 answer-of-spec =
     tie.close
     (tie.spec
     returns
-    shared-slice-read-wide
-    wide-requires
-    shared-slice-read-wide-2
-    wide-requires-2
+    shared-slice-read-usize-of
+    usize-of-requires
+    shared-slice-read-usize-of-2
+    usize-of-requires-2
     sub-decode-astc-block
     part-decode-astc-block-start
     part-decode-astc-block-end

@@ -4,11 +4,11 @@ use borrow.Author.Needs.{needs}
 use Rattle.program_stored.proofs.count_record.Statement.{statement}
 use Rattle.program_stored.proofs.count_record.Tie as tie
 
-element-copy-out-wide : tie.Need-element-copy-out-wide
-element-copy-out-wide c = search needs
+element-copy-out-usize-of : tie.Need-element-copy-out-usize-of
+element-copy-out-usize-of c = search needs
 
-wide-requires : tie.Need-wide-requires
-wide-requires c κs = search needs
+usize-of-requires : tie.Need-usize-of-requires
+usize-of-requires c κs = search needs
 
 mul-added : tie.Need-mul-added
 mul-added c = search needs
@@ -36,14 +36,14 @@ counted-requires c κs = search needs
 
 returns : tie.Need-returns
 returns c =
-    (c .counted .ensures ∙ rw (c .before .before .texels .ensures, c .before .differs .ensures), rw (c .before .before .before .added .ensures, c .before .before .before .before .before .wide .ensures .0))
+    (c .counted .ensures ∙ rw (c .before .before .texels .ensures, c .before .differs .ensures), rw (c .before .before .before .added .ensures, c .before .before .before .before .before .usize-of .ensures .0))
 
 pub count-record-spec : {M : Type 1} → statement M
 count-record-spec =
     tie.close
     (tie.spec
-    element-copy-out-wide
-    wide-requires
+    element-copy-out-usize-of
+    usize-of-requires
     mul-added
     element-copy-out-added
     added-requires

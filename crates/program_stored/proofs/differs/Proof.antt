@@ -4,16 +4,16 @@ use borrow.Author.Needs.{needs}
 use Rattle.program_stored.proofs.differs.Statement.{statement}
 use Rattle.program_stored.proofs.differs.Tie as tie
 
-element-copy-out-wide : tie.Need-element-copy-out-wide
-element-copy-out-wide c = search needs
+element-copy-out-usize-of : tie.Need-element-copy-out-usize-of
+element-copy-out-usize-of c = search needs
 
-wide-requires : tie.Need-wide-requires
-wide-requires c κs = search needs
+usize-of-requires : tie.Need-usize-of-requires
+usize-of-requires c κs = search needs
 
 returns : tie.Need-returns
 returns c =
     let s = c .before .before .before .args in
-    other-answer (s .head .now) (s .stored .now) (s .answer) (c .before .wide .result) (s .words .now) (search needs) (c .if1 .taken)
+    other-answer (s .head .now) (s .stored .now) (s .answer) (c .before .usize-of .result) (s .words .now) (search needs) (c .if1 .taken)
 
 stored-words-requires : tie.Need-stored-words-requires
 stored-words-requires c κs = search needs
@@ -32,15 +32,15 @@ returns-2 c =
     let whole = c .before .before .before .before in
     let tested = whole .before in
     let s = tested .before .before .before .args in
-    same-answer (s .head .now) (s .stored .now) (s .answer) (tested .before .wide .result) (s .words .now) (search needs) _ _ _ (tested .if1 .left) (search needs)
+    same-answer (s .head .now) (s .stored .now) (s .answer) (tested .before .usize-of .result) (s .words .now) (search needs) _ _ _ (tested .if1 .left) (search needs)
     (whole .stored-words .ensures) (c .before .texels .ensures) (c .count-differences .ensures)
 
 pub differs-spec : {M : Type 1} → statement M
 differs-spec =
     tie.close
     (tie.spec
-    element-copy-out-wide
-    wide-requires
+    element-copy-out-usize-of
+    usize-of-requires
     returns
     stored-words-requires
     slice-aggregate-count-differences

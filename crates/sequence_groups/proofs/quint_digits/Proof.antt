@@ -31,18 +31,18 @@ mul-x-2 c = part-fits _ 4 32 (lit< tt) (lit≤ tt)
 add-x-2 : tie.Need-add-x-2
 add-x-2 c = small-fits _ (lt-of-lt-of-le (quints-3 _ _ _) (lit≤ tt))
 
-mul-wide : tie.Need-mul-wide
-mul-wide c = twice-fits _ (lt-of-lt-of-le (quints-3 _ _ _) (lit≤ tt))
+mul-u64-of : tie.Need-mul-u64-of
+mul-u64-of c = twice-fits _ (lt-of-lt-of-le (quints-3 _ _ _) (lit≤ tt))
 
-element-copy-out-wide : tie.Need-element-copy-out-wide
-element-copy-out-wide c = quints-3 _ _ _
+element-copy-out-u64-of : tie.Need-element-copy-out-u64-of
+element-copy-out-u64-of c = quints-3 _ _ _
 
-wide-requires : tie.Need-wide-requires
-wide-requires c κs = tt
+u64-of-requires : tie.Need-u64-of-requires
+u64-of-requires c κs = tt
 
 returns : tie.Need-returns
 returns c = let s = c .before .before in
-    c .wide .ensures ∙ rw (s .pre .0) (ap (λ (x : ℕ). getD quintTable x 0) (quint-place (s .args .b) (s .args .d)) ∙ quint-entry (s .args .b) (s .args .d))
+    c .u64-of .ensures ∙ rw (s .pre .0) (ap (λ (x : ℕ). getD quintTable x 0) (quint-place (s .args .b) (s .args .d)) ∙ quint-entry (s .args .b) (s .args .d))
 
 pub quint-digits-spec : {M : Type 1} → statement M
 quint-digits-spec =
@@ -55,7 +55,7 @@ quint-digits-spec =
     shr-m-3
     mul-x-2
     add-x-2
-    mul-wide
-    element-copy-out-wide
-    wide-requires
+    mul-u64-of
+    element-copy-out-u64-of
+    u64-of-requires
     returns)

@@ -49,18 +49,18 @@ mul-x-4 c = part-fits _ 2 128 (lit< tt) (lit≤ tt)
 add-x-4 : tie.Need-add-x-4
 add-x-4 c = small-fits _ (trits-5 _ _ _ _ _)
 
-mul-wide : tie.Need-mul-wide
-mul-wide c = twice-fits _ (trits-5 _ _ _ _ _)
+mul-u64-of : tie.Need-mul-u64-of
+mul-u64-of c = twice-fits _ (trits-5 _ _ _ _ _)
 
-element-copy-out-wide : tie.Need-element-copy-out-wide
-element-copy-out-wide c = trits-5 _ _ _ _ _
+element-copy-out-u64-of : tie.Need-element-copy-out-u64-of
+element-copy-out-u64-of c = trits-5 _ _ _ _ _
 
-wide-requires : tie.Need-wide-requires
-wide-requires c κs = tt
+u64-of-requires : tie.Need-u64-of-requires
+u64-of-requires c κs = tt
 
 returns : tie.Need-returns
 returns c = let s = c .before .before in
-    c .wide .ensures ∙ rw (s .pre .0) (ap (λ (x : ℕ). getD tritTable x 0) (trit-place (s .args .b) (s .args .d)) ∙ trit-entry (s .args .b) (s .args .d))
+    c .u64-of .ensures ∙ rw (s .pre .0) (ap (λ (x : ℕ). getD tritTable x 0) (trit-place (s .args .b) (s .args .d)) ∙ trit-entry (s .args .b) (s .args .d))
 
 pub trit-digits-spec : {M : Type 1} → statement M
 trit-digits-spec =
@@ -79,7 +79,7 @@ trit-digits-spec =
     shr-m-5
     mul-x-4
     add-x-4
-    mul-wide
-    element-copy-out-wide
-    wide-requires
+    mul-u64-of
+    element-copy-out-u64-of
+    u64-of-requires
     returns)

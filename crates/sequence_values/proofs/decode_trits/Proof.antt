@@ -10,10 +10,10 @@ use Rattle.sequence_values.proofs.decode_trits.Statement.{statement}
 use Rattle.sequence_values.proofs.decode_trits.Tie as tie
 
 abbrev Inv-loop : tie.InvT-loop
-Inv-loop out₀ t b n s₀ i₀ out s i = Turned (range Trits b) (valueOf s₀) n i (valueOf s) out
+Inv-loop out₀ trits b n s₀ i₀ out s i = Turned (range Trits b) (valueOf s₀) n i (valueOf s) out
 
 abbrev μ-loop : tie.MeasureT-loop
-μ-loop out₀ t b n s₀ i₀ out s i = n - i
+μ-loop out₀ trits b n s₀ i₀ out s i = n - i
 
 loop-holds : tie.Need-loop-holds Inv-loop μ-loop
 loop-holds c = turned-first (range Trits (c .args .b)) (valueOf (c .args .w)) (c .args .n) (c .args .out .now) (c .pre .0)

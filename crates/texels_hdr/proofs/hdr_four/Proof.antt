@@ -13,11 +13,11 @@ use Rattle.texels_hdr.proofs.hdr_four.Statement.{statement}
 use Rattle.texels_hdr.proofs.hdr_four.Tie as tie
 
 abbrev Inv-loop : tie.InvT-loop
-Inv-loop out₀ n w x map a0 a1 a2 a3 b0 b1 b2 b3 m i₀ out i =
-    (i ≤ eights n) × (out ≡ put (hdrAt (record { a = a0; b = a1; c = a2; d = a3 }) (record { a = b0; b = b1; c = b2; d = b3 }) w map x) 0 i out₀)
+Inv-loop out₀ n w x partitions a0 a1 a2 a3 b0 b1 b2 b3 m i₀ out i =
+    (i ≤ eights n) × (out ≡ put (hdrAt (record { a = a0; b = a1; c = a2; d = a3 }) (record { a = b0; b = b1; c = b2; d = b3 }) w partitions x) 0 i out₀)
 
 abbrev μ-loop : tie.MeasureT-loop
-μ-loop out₀ n w x map a0 a1 a2 a3 b0 b1 b2 b3 m i₀ out i = eights n - i
+μ-loop out₀ n w x partitions a0 a1 a2 a3 b0 b1 b2 b3 m i₀ out i = eights n - i
 
 -- the turn's texel
 turn : (c : tie.In-loop Inv-loop μ-loop) → c .before .loop .i < eights (c .before .before .before .args .n)
@@ -51,7 +51,7 @@ hdr-channel-requires : tie.Need-hdr-channel-requires Inv-loop μ-loop
 hdr-channel-requires c κs =
     let s = c .before .before .before .before .before .before .before in
     let i = c .before .before .before .before .before .loop .i in
-    let p = getD (s .args .map .now) i 0 in
+    let p = getD (s .args .partitions .now) i 0 in
     (four-wide (s .args .a) p (s .pre .0 .2) (c .before .before .any .ensures), four-wide (s .args .b) p (s .pre .0 .3) (c .before .any2 .ensures), s .pre .1 .0 (s .args .x + i))
 
 element-write-out : tie.Need-element-write-out Inv-loop μ-loop
@@ -64,7 +64,7 @@ loop-less : tie.Need-loop-less Inv-loop μ-loop
 loop-less c = less-left (turn (c .before .before .before .before .before))
 
 loop-again : tie.Need-loop-again Inv-loop μ-loop
-loop-again c = (next-le (turn (c .before .before .before .before .before)), put-turn _ _ _ _ _ _ (c .before .before .before .before .before .before .loop .inv .1) zero-le (let s = c .before .before .before .before .before .before .before .before in four-is (s .args .a) (s .args .b) (getD (s .args .map .now) (c .before .before .before .before .before .before .loop .i) 0) (getD (s .args .w .now) (s .args .x + c .before .before .before .before .before .before .loop .i) 0) (c .before .before .before .any .ensures) (c .before .before .any2 .ensures) (c .hdr-channel .ensures)))
+loop-again c = (next-le (turn (c .before .before .before .before .before)), put-turn _ _ _ _ _ _ (c .before .before .before .before .before .before .loop .inv .1) zero-le (let s = c .before .before .before .before .before .before .before .before in four-is (s .args .a) (s .args .b) (getD (s .args .partitions .now) (c .before .before .before .before .before .before .loop .i) 0) (getD (s .args .w .now) (s .args .x + c .before .before .before .before .before .before .loop .i) 0) (c .before .before .before .any .ensures) (c .before .before .any2 .ensures) (c .hdr-channel .ensures)))
 
 returns : tie.Need-returns Inv-loop μ-loop
 returns c = put-end _ _ _ _ _ _ (c .before .loop .inv .1) (c .before .loop .inv .0) (omega arith)

@@ -14,11 +14,11 @@ use Rattle.texels_hdr.proofs.hdr_two.Statement.{statement}
 use Rattle.texels_hdr.proofs.hdr_two.Tie as tie
 
 abbrev Inv-loop : tie.InvT-loop
-Inv-loop out₀ n w x map a0 a1 b0 b1 m i₀ out i =
-    (i ≤ eights n) × (out ≡ put (λ (i : ℕ). hdrChannel (eitherOf (getD map i 0) a0 a1) (eitherOf (getD map i 0) b0 b1) (getD w (x + i) 0)) 0 i out₀)
+Inv-loop out₀ n w x partitions a0 a1 b0 b1 m i₀ out i =
+    (i ≤ eights n) × (out ≡ put (λ (i : ℕ). hdrChannel (eitherOf (getD partitions i 0) a0 a1) (eitherOf (getD partitions i 0) b0 b1) (getD w (x + i) 0)) 0 i out₀)
 
 abbrev μ-loop : tie.MeasureT-loop
-μ-loop out₀ n w x map a0 a1 b0 b1 m i₀ out i = eights n - i
+μ-loop out₀ n w x partitions a0 a1 b0 b1 m i₀ out i = eights n - i
 
 -- the turn's texel
 turn : (c : tie.In-loop Inv-loop μ-loop) → c .before .loop .i < eights (c .before .before .before .args .n)
@@ -52,7 +52,7 @@ hdr-channel-requires : tie.Need-hdr-channel-requires Inv-loop μ-loop
 hdr-channel-requires c κs =
     let s = c .before .before .before .before .before .before .before in
     let i = c .before .before .before .before .before .loop .i in
-    let p = getD (s .args .map .now) i 0 in
+    let p = getD (s .args .partitions .now) i 0 in
     let h = s .pre .1 .1 i in
     (two-wide (s .args .a) p (s .pre .0 .2) h (c .before .before .either .ensures), two-wide (s .args .b) p (s .pre .0 .3) h (c .before .either2 .ensures), s .pre .1 .0 (s .args .x + i))
 
@@ -72,7 +72,7 @@ returns : tie.Need-returns Inv-loop μ-loop
 returns c =
     let s = c .before .before .before in
     put-end _ _ _ (eights (s .args .n)) _ _ (c .before .loop .inv .1) (c .before .loop .inv .0) (omega arith)
-    ∙ put-same _ _ 0 (eights (s .args .n)) _ (λ i l h. rw (either-pick (s .args .a) (getD (s .args .map .now) i 0) (s .pre .1 .1 i), either-pick (s .args .b) (getD (s .args .map .now) i 0) (s .pre .1 .1 i)))
+    ∙ put-same _ _ 0 (eights (s .args .n)) _ (λ i l h. rw (either-pick (s .args .a) (getD (s .args .partitions .now) i 0) (s .pre .1 .1 i), either-pick (s .args .b) (getD (s .args .partitions .now) i 0) (s .pre .1 .1 i)))
 
 pub hdr-two-spec : {M : Type 1} → statement M
 hdr-two-spec =

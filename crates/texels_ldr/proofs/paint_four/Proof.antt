@@ -17,11 +17,11 @@ use Rattle.texels_ldr.proofs.paint_four.Statement.{statement}
 use Rattle.texels_ldr.proofs.paint_four.Tie as tie
 
 abbrev Inv-loop : tie.InvT-loop
-Inv-loop out₀ n w k map e0 e1 e2 e3 m i₀ out i =
-    (i ≤ eights n) × (out ≡ put (laneAt (λ (i : ℕ). wordAt (anyOf (getD map i 0) e0 e1 e2 e3 nothing) w k i)) 0 (2 * i) out₀)
+Inv-loop out₀ n w k partitions e0 e1 e2 e3 m i₀ out i =
+    (i ≤ eights n) × (out ≡ put (laneAt (λ (i : ℕ). wordAt (anyOf (getD partitions i 0) e0 e1 e2 e3 nothing) w k i)) 0 (2 * i) out₀)
 
 abbrev μ-loop : tie.MeasureT-loop
-μ-loop out₀ n w k map e0 e1 e2 e3 m i₀ out i = eights n - i
+μ-loop out₀ n w k partitions e0 e1 e2 e3 m i₀ out i = eights n - i
 
 array-copy-out-e0 : tie.Need-array-copy-out-e0 Inv-loop μ-loop
 array-copy-out-e0 c = omega arith
@@ -36,10 +36,10 @@ array-copy-out-e3 : tie.Need-array-copy-out-e3 Inv-loop μ-loop
 array-copy-out-e3 c = omega arith
 
 -- the endpoints of the texel's partition
-plain : (c : tie.In-loop Inv-loop μ-loop) → Plain (anyOf (getD (c .before .before .before .before .before .before .before .args .map .now) (c .before .loop .i) 0) (getD (c .before .before .before .before .before .before .before .args .t6) 0 nothing) (getD (c .before .before .before .before .before .before .before .args .t6) 1 nothing) (getD (c .before .before .before .before .before .before .before .args .t6) 2 nothing) (getD (c .before .before .before .before .before .before .before .args .t6) 3 nothing) nothing)
+plain : (c : tie.In-loop Inv-loop μ-loop) → Plain (anyOf (getD (c .before .before .before .before .before .before .before .args .partitions .now) (c .before .loop .i) 0) (getD (c .before .before .before .before .before .before .before .args .t6) 0 nothing) (getD (c .before .before .before .before .before .before .before .args .t6) 1 nothing) (getD (c .before .before .before .before .before .before .before .args .t6) 2 nothing) (getD (c .before .before .before .before .before .before .before .args .t6) 3 nothing) nothing)
 plain c =
     let s = c .before .before .before .before .before .before .before in
-    rw (any-entry (s .args .t6) nothing (getD (s .args .map .now) (c .before .loop .i) 0) (s .pre .1 .1 .0 (c .before .loop .i))) (s .pre .1 .1 .1 (c .before .loop .i))
+    rw (any-entry (s .args .t6) nothing (getD (s .args .partitions .now) (c .before .loop .i) 0) (s .pre .1 .1 .0 (c .before .loop .i))) (s .pre .1 .1 .1 (c .before .loop .i))
 
 -- the turn's texel
 turn : (c : tie.In-loop Inv-loop μ-loop) → c .before .loop .i < eights (c .before .before .before .before .before .before .before .args .n)
@@ -112,7 +112,7 @@ returns c =
     let s = c .before .before .before .before .before .before .before in
     let e : c .before .loop .i ≡ eights (s .args .n) = omega arith in
     rw e at (c .before .loop .inv .1)
-    ∙ put-lanes _ _ (eights (s .args .n)) _ (λ i h. rw (any-entry (s .args .t6) nothing (getD (s .args .map .now) i 0) (s .pre .1 .1 .0 i)))
+    ∙ put-lanes _ _ (eights (s .args .n)) _ (λ i h. rw (any-entry (s .args .t6) nothing (getD (s .args .partitions .now) i 0) (s .pre .1 .1 .0 i)))
 
 pub paint-four-spec : {M : Type 1} → statement M
 paint-four-spec =

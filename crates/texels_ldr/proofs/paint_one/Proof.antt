@@ -31,11 +31,11 @@ eights-requires c κs = omega arith
 loop-holds : tie.Need-loop-holds Inv-loop μ-loop
 loop-holds c = (zero-le, put-none _ 0 _)
 
-element-copy-out-wide : tie.Need-element-copy-out-wide Inv-loop μ-loop
-element-copy-out-wide c = first-in (within c)
+element-copy-out-u16-of : tie.Need-element-copy-out-u16-of Inv-loop μ-loop
+element-copy-out-u16-of c = first-in (within c)
 
-wide-requires : tie.Need-wide-requires Inv-loop μ-loop
-wide-requires c κs = omega arith
+u16-of-requires : tie.Need-u16-of-requires Inv-loop μ-loop
+u16-of-requires c κs = omega arith
 
 pair-requires : tie.Need-pair-requires Inv-loop μ-loop
 pair-requires c κs = omega (arith, c .before .before .before .before .before .pre .1 (c .before .before .before .loop .i))
@@ -72,7 +72,7 @@ loop-less c = less-left (turn (c .before .before .before .before))
 
 loop-again : tie.Need-loop-again Inv-loop μ-loop
 loop-again c =
-    let e = c .before .before .wide .ensures .0 in
+    let e = c .before .before .u16-of .ensures .0 in
     let s = c .before .before .before .before .before .before .before in
     (next-le (turn (c .before .before .before .before)), ldr-stores _ (s .args .e) (s .args .e) _ _ _ (s .pre .0 .1) (c .before .before .before .before .before .loop .inv .1) refl refl e e e e (c .before .pair .ensures) (c .pair2 .ensures))
 
@@ -89,8 +89,8 @@ paint-one-spec =
     μ-loop
     eights-requires
     loop-holds
-    element-copy-out-wide
-    wide-requires
+    element-copy-out-u16-of
+    u16-of-requires
     pair-requires
     mul-out
     mul-out-2

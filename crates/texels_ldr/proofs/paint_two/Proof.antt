@@ -14,17 +14,17 @@ use Rattle.texels_ldr.proofs.paint_two.Statement.{statement}
 use Rattle.texels_ldr.proofs.paint_two.Tie as tie
 
 abbrev Inv-loop : tie.InvT-loop
-Inv-loop out₀ n w map e f m i₀ out i =
-    (i ≤ eights n) × (out ≡ put (laneAt (λ (i : ℕ). wordOne (eitherOf (getD map i 0) e f) w i)) 0 (2 * i) out₀)
+Inv-loop out₀ n w partitions e f m i₀ out i =
+    (i ≤ eights n) × (out ≡ put (laneAt (λ (i : ℕ). wordOne (eitherOf (getD partitions i 0) e f) w i)) 0 (2 * i) out₀)
 
 abbrev μ-loop : tie.MeasureT-loop
-μ-loop out₀ n w map e f m i₀ out i = eights n - i
+μ-loop out₀ n w partitions e f m i₀ out i = eights n - i
 
 -- the endpoints picked
 plain : (c : tie.After-either-of Inv-loop μ-loop) → Plain (c .either-of .result)
 plain c =
     let s = c .before .before .before .before .before .before .before in
-    rw (c .either-of .ensures) (plain-either (getD (s .args .map .now) (c .before .before .before .before .before .loop .i) 0) (s .args .e) (s .args .f) (s .pre .0 .1) (s .pre .0 .2))
+    rw (c .either-of .ensures) (plain-either (getD (s .args .partitions .now) (c .before .before .before .before .before .loop .i) 0) (s .args .e) (s .args .f) (s .pre .0 .1) (s .pre .0 .2))
 
 -- the turn's texel
 turn : (c : tie.In-loop Inv-loop μ-loop) → c .before .loop .i < eights (c .before .before .before .args .n)
@@ -39,11 +39,11 @@ eights-requires c κs = omega arith
 loop-holds : tie.Need-loop-holds Inv-loop μ-loop
 loop-holds c = (zero-le, put-none _ 0 _)
 
-element-copy-out-wide : tie.Need-element-copy-out-wide Inv-loop μ-loop
-element-copy-out-wide c = first-in (within c)
+element-copy-out-u16-of : tie.Need-element-copy-out-u16-of Inv-loop μ-loop
+element-copy-out-u16-of c = first-in (within c)
 
-wide-requires : tie.Need-wide-requires Inv-loop μ-loop
-wide-requires c κs = omega arith
+u16-of-requires : tie.Need-u16-of-requires Inv-loop μ-loop
+u16-of-requires c κs = omega arith
 
 element-copy-out-either-of : tie.Need-element-copy-out-either-of Inv-loop μ-loop
 element-copy-out-either-of c = within (c .before .before)
@@ -51,7 +51,7 @@ element-copy-out-either-of c = within (c .before .before)
 either-of-requires : tie.Need-either-of-requires Inv-loop μ-loop
 either-of-requires c κs =
     let s = c .before .before .before .before .before .before in
-    plain-either (getD (s .args .map .now) (c .before .before .before .before .loop .i) 0) (s .args .e) (s .args .f) (s .pre .0 .1) (s .pre .0 .2)
+    plain-either (getD (s .args .partitions .now) (c .before .before .before .before .loop .i) 0) (s .args .e) (s .args .f) (s .pre .0 .1) (s .pre .0 .2)
 
 pair-requires : tie.Need-pair-requires Inv-loop μ-loop
 pair-requires c κs =
@@ -93,8 +93,8 @@ loop-less c = less-left (turn (c .before .before .before .before .before .before
 loop-again : tie.Need-loop-again Inv-loop μ-loop
 loop-again c =
     let s = c .before .before .before .before .before .before .before .before .before in
-    let e = c .before .before .before .before .wide .ensures .0 in
-    (next-le (turn (c .before .before .before .before .before .before)), ldr-stores _ (c .before .before .either-of .result) (eitherOf (getD (s .args .map .now) (c .before .before .before .before .before .before .before .loop .i) 0) (s .args .e) (s .args .f)) _ _ _ (plain-either (getD (s .args .map .now) (c .before .before .before .before .before .before .before .loop .i) 0) (s .args .e) (s .args .f) (s .pre .0 .1) (s .pre .0 .2)) (c .before .before .before .before .before .before .before .loop .inv .1) refl (c .before .before .either-of .ensures) e e e e (c .before .pair .ensures) (c .pair2 .ensures))
+    let e = c .before .before .before .before .u16-of .ensures .0 in
+    (next-le (turn (c .before .before .before .before .before .before)), ldr-stores _ (c .before .before .either-of .result) (eitherOf (getD (s .args .partitions .now) (c .before .before .before .before .before .before .before .loop .i) 0) (s .args .e) (s .args .f)) _ _ _ (plain-either (getD (s .args .partitions .now) (c .before .before .before .before .before .before .before .loop .i) 0) (s .args .e) (s .args .f) (s .pre .0 .1) (s .pre .0 .2)) (c .before .before .before .before .before .before .before .loop .inv .1) refl (c .before .before .either-of .ensures) e e e e (c .before .pair .ensures) (c .pair2 .ensures))
 
 returns : tie.Need-returns Inv-loop μ-loop
 returns c =
@@ -109,8 +109,8 @@ paint-two-spec =
     μ-loop
     eights-requires
     loop-holds
-    element-copy-out-wide
-    wide-requires
+    element-copy-out-u16-of
+    u16-of-requires
     element-copy-out-either-of
     either-of-requires
     pair-requires

@@ -13,7 +13,7 @@ use Rattle.texels_samples.proofs.put_any.Statement.{statement}
 use Rattle.texels_samples.proofs.put_any.Tie as tie
 
 abbrev Inv-loop : tie.InvT-loop
-Inv-loop out₀ at n w x map e0 e1 e2 f0 f1 f2 g0 g1 g2 h0 h1 h2 m i₀ out i =
+Inv-loop out₀ at n w x partitions e0 e1 e2 f0 f1 f2 g0 g1 g2 h0 h1 h2 m i₀ out i =
     (i ≤ eights n)
     × (out
     ≡ putAt
@@ -23,10 +23,10 @@ Inv-loop out₀ at n w x map e0 e1 e2 f0 f1 f2 g0 g1 g2 h0 h1 h2 m i₀ out i =
       b = record { hdr = f0; first = f1; second = f2 };
       c = record { hdr = g0; first = g1; second = g2 };
       d = record { hdr = h0; first = h1; second = h2 };
-    }) w map x) at i out₀)
+    }) w partitions x) at i out₀)
 
 abbrev μ-loop : tie.MeasureT-loop
-μ-loop out₀ at n w x map e0 e1 e2 f0 f1 f2 g0 g1 g2 h0 h1 h2 m i₀ out i = eights n - i
+μ-loop out₀ at n w x partitions e0 e1 e2 f0 f1 f2 g0 g1 g2 h0 h1 h2 m i₀ out i = eights n - i
 
 -- the turn's texel
 turn : (c : tie.In-loop Inv-loop μ-loop) → c .before .loop .i < eights (c .before .before .before .before .before .before .before .args .n)
@@ -63,7 +63,7 @@ sample-requires : tie.Need-sample-requires Inv-loop μ-loop
 sample-requires c κs =
     let s = c .before .before .before .before .before .before .before .before .before .before .before .before in
     let i = c .before .before .before .before .before .before .loop .i in
-    let l = any-limit (s .args .s) (getD (s .args .map .now) i 0) (s .pre .0 .3) (s .pre .1 .1 i) (c .before .before .before .any .ensures) (c .before .before .any2 .ensures) (c .before .any3 .ensures) in
+    let l = any-limit (s .args .s) (getD (s .args .partitions .now) i 0) (s .pre .0 .3) (s .pre .1 .1 i) (c .before .before .before .any .ensures) (c .before .before .any2 .ensures) (c .before .any3 .ensures) in
     (l .0, l .1, s .pre .1 .0 (s .args .x + i))
 
 add-out : tie.Need-add-out Inv-loop μ-loop
@@ -86,7 +86,7 @@ loop-again c =
     let s = c .before .before .before .before .before .before .before .before .before .before .before .before .before in
     let i = c .before .before .before .before .before .before .before .loop .i in (
       next-le (turn (c .before .before .before .before .before .before)),
-      putAt-turn _ _ _ _ _ _ (c .before .before .before .before .before .before .before .loop .inv .1) (any-is (s .args .s) (getD (s .args .map .now) i 0) (getD (s .args .w .now) (s .args .x + i) 0) (c .before .before .before .before .any .ensures) (c .before .before .before .any2 .ensures) (c .before .before .any3 .ensures) (c .sample .ensures)),
+      putAt-turn _ _ _ _ _ _ (c .before .before .before .before .before .before .before .loop .inv .1) (any-is (s .args .s) (getD (s .args .partitions .now) i 0) (getD (s .args .w .now) (s .args .x + i) 0) (c .before .before .before .before .any .ensures) (c .before .before .before .any2 .ensures) (c .before .before .any3 .ensures) (c .sample .ensures)),
     )
 
 returns : tie.Need-returns Inv-loop μ-loop

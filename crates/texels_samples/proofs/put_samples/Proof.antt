@@ -56,8 +56,8 @@ returns : tie.Need-returns
 returns c =
     let s = c .before .before .before .before .before .before .before .before .before .before .before .before .before in
     let k = c .before .before .before .before .before .before .before .before .before .before .before .before .starts-of .ensures .0 in
-    let put = channel-put (s .args .n) (s .args .parts) (s .args .planes) (s .args .channel) (s .args .ends) (s .args .w .now) (s .args .map .now) (s .pre) in
-    all-put (s .args .n) (s .args .parts) (s .args .planes) (s .args .channel) (s .args .ends) (s .args .w .now) (s .args .map .now) (s .pre) _ _ _ _ _
+    let put = channel-put (s .args .n) (s .args .parts) (s .args .planes) (s .args .channel) (s .args .ends) (s .args .w .now) (s .args .partitions .now) (s .pre) in
+    all-put (s .args .n) (s .args .parts) (s .args .planes) (s .args .channel) (s .args .ends) (s .args .w .now) (s .args .partitions .now) (s .pre) _ _ _ _ _
     (put 0 0 _ _ _ _ (c .before .before .before .before .before .before .before .before .before .before .pairs-of .ensures) (ap (λ (z : Starts). z .r) k) (c .before .before .before .before .before .before .before .before .before .put-channel .ensures))
     (put 1 144 _ _ _ _ (c .before .before .before .before .before .before .before .pairs-of2 .ensures) (ap (λ (z : Starts). z .g) k) (c .before .before .before .before .before .before .put-channel2 .ensures))
     (put 2 288 _ _ _ _ (c .before .before .before .before .pairs-of3 .ensures) (ap (λ (z : Starts). z .b) k) (c .before .before .before .put-channel3 .ensures))

@@ -47,16 +47,16 @@ cast-place c = omega (arith, sides-in (c .before .before .before .before .before
 place-requires : tie.Need-place-requires Inv-loop μ-loop
 place-requires c κs = omega (arith, c .before .before .before .before .before .before .pre .0 .0 .high, sides-in (c .before .before .before .before .before .before .pre .0 .0), c .before .before .before .before .before .step-of .ensures .1)
 
-mul-long : tie.Need-mul-long Inv-loop μ-loop
-mul-long c = omega (arith, c .before .place .ensures .1)
+mul-usize-of : tie.Need-mul-usize-of Inv-loop μ-loop
+mul-usize-of c = omega (arith, c .before .place .ensures .1)
 
-long-requires : tie.Need-long-requires Inv-loop μ-loop
-long-requires c κs = tt
+usize-of-requires : tie.Need-usize-of-requires Inv-loop μ-loop
+usize-of-requires c κs = tt
 
 fill-row-requires : tie.Need-fill-row-requires Inv-loop μ-loop
 fill-row-requires c κs =
     let fits = c .before .before .before .before .before .before .before .before .before .pre .0 .0 in
-    (omega (arith, offset (c .before .before), sides-in fits), omega (arith, sides-in fits), omega (arith, in-grid (c .before .before), c .long .ensures, fits .high, sides-in fits), omega arith, c .before .before .before .before .before .before .before .before .before .pre .1 .0)
+    (omega (arith, offset (c .before .before), sides-in fits), omega (arith, sides-in fits), omega (arith, in-grid (c .before .before), c .usize-of .ensures, fits .high, sides-in fits), omega arith, c .before .before .before .before .before .before .before .before .before .pre .1 .0)
 
 add-o : tie.Need-add-o Inv-loop μ-loop
 add-o c = omega (arith, offset (c .before .before .before .before), sides-in (c .before .before .before .before .before .before .before .before .before .before .before .pre .0 .0))
@@ -81,7 +81,7 @@ loop-again c =
           (λ s h. ap (λ (n : ℕ). rowAt (a .pairs .now) (a .part .now) (n / 16 * 16) (n % 16) s) (at-place (c .before .before .before .before)))
           (λ s h m. row-past (a .pairs .now) (a .part .now) (a .g .footprint .width) (p / 16) (p % 16) s (c .before .before .before .before .before .before .before .before .before .before .before .pre .1 .1) h (omega (arith, sides-in fits, lanes .ensures)))
           (l .inv .2)
-          (rw (c .before .before .long .ensures) at (c .before .fill-row .ensures)),
+          (rw (c .before .before .usize-of .ensures) at (c .before .fill-row .ensures)),
     )
 
 returns : tie.Need-returns Inv-loop μ-loop
@@ -103,8 +103,8 @@ fill-rows-spec =
     loop-holds
     cast-place
     place-requires
-    mul-long
-    long-requires
+    mul-usize-of
+    usize-of-requires
     fill-row-requires
     add-o
     add-t

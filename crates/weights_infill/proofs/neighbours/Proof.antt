@@ -20,20 +20,20 @@ eights-requires c κs = omega arith
 loop-holds : tie.Need-loop-holds Inv-loop μ-loop
 loop-holds c = (zero-le, put-none _ _ _)
 
-element-copy-out-wide : tie.Need-element-copy-out-wide Inv-loop μ-loop
-element-copy-out-wide c = omega arith
+element-copy-out-u16-of : tie.Need-element-copy-out-u16-of Inv-loop μ-loop
+element-copy-out-u16-of c = omega arith
 
-wide-requires : tie.Need-wide-requires Inv-loop μ-loop
-wide-requires c κs = omega arith
+u16-of-requires : tie.Need-u16-of-requires Inv-loop μ-loop
+u16-of-requires c κs = omega arith
 
-add-wide : tie.Need-add-wide Inv-loop μ-loop
-add-wide c = omega arith
+add-u16-of : tie.Need-add-u16-of Inv-loop μ-loop
+add-u16-of c = omega arith
 
-element-copy-out-wide-2 : tie.Need-element-copy-out-wide-2 Inv-loop μ-loop
-element-copy-out-wide-2 c = omega arith
+element-copy-out-u16-of-2 : tie.Need-element-copy-out-u16-of-2 Inv-loop μ-loop
+element-copy-out-u16-of-2 c = omega arith
 
-wide-requires-2 : tie.Need-wide-requires-2 Inv-loop μ-loop
-wide-requires-2 c κs = omega arith
+u16-of-requires-2 : tie.Need-u16-of-requires-2 Inv-loop μ-loop
+u16-of-requires-2 c κs = omega arith
 
 mul-out : tie.Need-mul-out Inv-loop μ-loop
 mul-out c = omega arith
@@ -57,7 +57,7 @@ loop-again : tie.Need-loop-again Inv-loop μ-loop
 loop-again c = (
   omega arith,
   put-turn _ _ _ _ _ _ (c .before .before .before .before .before .loop .inv .1) zero-le
-      (rw (c .before .before .wide .ensures .0, c .wide2 .ensures .0)),
+      (rw (c .before .before .u16-of .ensures .0, c .u16-of2 .ensures .0)),
 )
 
 returns : tie.Need-returns Inv-loop μ-loop
@@ -71,11 +71,11 @@ neighbours-spec =
     μ-loop
     eights-requires
     loop-holds
-    element-copy-out-wide
-    wide-requires
-    add-wide
-    element-copy-out-wide-2
-    wide-requires-2
+    element-copy-out-u16-of
+    u16-of-requires
+    add-u16-of
+    element-copy-out-u16-of-2
+    u16-of-requires-2
     mul-out
     add-out
     mul-out-2

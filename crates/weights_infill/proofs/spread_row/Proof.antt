@@ -13,20 +13,20 @@ Inv-loop out₀ o width at next k s₀ out s = (s ≤ width) × (out ≡ putAt (
 abbrev μ-loop : tie.MeasureT-loop
 μ-loop out₀ o width at next k s₀ out s = width - s
 
-inside : (c : tie.After-long Inv-loop μ-loop) → c .before .before .before .before .args .k + c .long .result < 72
-inside c = rw (c .long .ensures) (c .before .before .before .before .pre .2 (c .before .before .before .loop .s) (c .before .before .loop-test .taken))
+inside : (c : tie.After-usize-of Inv-loop μ-loop) → c .before .before .before .before .args .k + c .usize-of .result < 72
+inside c = rw (c .usize-of .ensures) (c .before .before .before .before .pre .2 (c .before .before .before .loop .s) (c .before .before .loop-test .taken))
 
 loop-holds : tie.Need-loop-holds Inv-loop μ-loop
 loop-holds c = (zero-le, putAt-none _ _ _)
 
-mul-long : tie.Need-mul-long Inv-loop μ-loop
-mul-long c = omega arith
+mul-usize-of : tie.Need-mul-usize-of Inv-loop μ-loop
+mul-usize-of c = omega arith
 
-element-copy-out-long : tie.Need-element-copy-out-long Inv-loop μ-loop
-element-copy-out-long c = omega arith
+element-copy-out-usize-of : tie.Need-element-copy-out-usize-of Inv-loop μ-loop
+element-copy-out-usize-of c = omega arith
 
-long-requires : tie.Need-long-requires Inv-loop μ-loop
-long-requires c κs = omega arith
+usize-of-requires : tie.Need-usize-of-requires Inv-loop μ-loop
+usize-of-requires c κs = omega arith
 
 add-out : tie.Need-add-out Inv-loop μ-loop
 add-out c = omega (arith, inside c)
@@ -56,7 +56,7 @@ loop-again : tie.Need-loop-again Inv-loop μ-loop
 loop-again c = (
   omega arith,
   putAt-turn _ _ _ _ _ _ (c .before .before .before .before .loop .inv .1)
-      (ap (λ (n : ℕ). getD (c .before .before .before .before .before .args .next .now) (c .before .before .before .before .before .args .k + n) 0) (c .before .long .ensures)),
+      (ap (λ (n : ℕ). getD (c .before .before .before .before .before .args .next .now) (c .before .before .before .before .before .args .k + n) 0) (c .before .usize-of .ensures)),
 )
 
 returns : tie.Need-returns Inv-loop μ-loop
@@ -69,9 +69,9 @@ spread-row-spec =
     Inv-loop
     μ-loop
     loop-holds
-    mul-long
-    element-copy-out-long
-    long-requires
+    mul-usize-of
+    element-copy-out-usize-of
+    usize-of-requires
     add-out
     mul-out
     element-copy-out-out

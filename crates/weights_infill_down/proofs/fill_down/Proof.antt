@@ -46,10 +46,10 @@ in-grid c = rw (at-place c) (down-in (c .before .before .before .before .before 
 offset : (c : tie.After-place Inv-loop μ-loop) → c .before .before .before .loop .o ≤ 132
 offset c = row-start (c .before .before .before .before .before .before .before .before .before .pre .0) (c .before .before .before .loop .t) (c .before .before .before .loop .o) (omega arith) (c .before .before .before .loop .inv .1)
 
-rows : (c : tie.After-long Inv-loop μ-loop) → c .long .result * c .before .before .before .before .before .before .before .before .before .before .before .args .g .width ≤ 11 * 12
+rows : (c : tie.After-usize-of Inv-loop μ-loop) → c .usize-of .result * c .before .before .before .before .before .before .before .before .before .before .before .args .g .width ≤ 11 * 12
 rows c =
     let fits = c .before .before .before .before .before .before .before .before .before .before .before .pre .0 in
-    mul-le-mul {n₂ = 11} {m₂ = 12} (omega (arith, c .long .ensures, in-grid (c .before .before))) (omega (arith, fits .wide, sides-in fits))
+    mul-le-mul {n₂ = 11} {m₂ = 12} (omega (arith, c .usize-of .ensures, in-grid (c .before .before))) (omega (arith, fits .wide, sides-in fits))
 
 inside-requires : tie.Need-inside-requires Inv-loop μ-loop
 inside-requires c κs = omega (arith, sides-in (c .before .pre .0))
@@ -74,8 +74,8 @@ cast-place c = omega (arith, sides-in (c .before .before .before .before .before
 place-requires : tie.Need-place-requires Inv-loop μ-loop
 place-requires c κs = omega (arith, c .before .before .before .before .before .before .before .before .pre .0 .high, sides-in (c .before .before .before .before .before .before .before .before .pre .0), c .before .before .before .before .before .step-of .ensures .1)
 
-long-requires : tie.Need-long-requires Inv-loop μ-loop
-long-requires c κs = tt
+usize-of-requires : tie.Need-usize-of-requires Inv-loop μ-loop
+usize-of-requires c κs = tt
 
 mul-fill-row-whole : tie.Need-mul-fill-row-whole Inv-loop μ-loop
 mul-fill-row-whole c = omega (arith, rows (c .before))
@@ -110,7 +110,7 @@ loop-again c =
           ∙ ap (λ (n : ℕ). wholeAt (a .wv .now) (a .g .width) (n / 16 * a .g .width) (n % 16) s) (at-place (c .before .before .before .before .before .before)))
           (λ s h m. ap (λ (x : ℕ). whole s * x) (kept-past (c .before .before .before .before .before .before .before .before .before .before .before .before .before) s h) ∙ mul-zero (whole s))
           (l .inv .2)
-          (rw (c .before .before .before .before .long .ensures) at (c .before .fill-row-whole .ensures)),
+          (rw (c .before .before .before .before .usize-of .ensures) at (c .before .fill-row-whole .ensures)),
     )
 
 returns : tie.Need-returns Inv-loop μ-loop
@@ -134,7 +134,7 @@ fill-down-spec =
     loop-holds
     cast-place
     place-requires
-    long-requires
+    usize-of-requires
     mul-fill-row-whole
     fill-row-whole-requires
     add-o

@@ -22,15 +22,15 @@ eights-requires c κs = omega arith
 loop-holds : tie.Need-loop-holds Inv-loop μ-loop
 loop-holds c = (zero-le, put-none _ 0 _)
 
-element-copy-out-wide : tie.Need-element-copy-out-wide Inv-loop μ-loop
-element-copy-out-wide c = omega arith
+element-copy-out-u16-of : tie.Need-element-copy-out-u16-of Inv-loop μ-loop
+element-copy-out-u16-of c = omega arith
 
-wide-requires : tie.Need-wide-requires Inv-loop μ-loop
-wide-requires c κs = omega arith
+u16-of-requires : tie.Need-u16-of-requires Inv-loop μ-loop
+u16-of-requires c κs = omega arith
 
 sum-requires : tie.Need-sum-requires Inv-loop μ-loop
 sum-requires c κs =
-    (c .before .before .before .before .before .pre .1, rw (c .wide .ensures .0) (c .before .before .before .before .before .pre .2 (c .before .before .before .loop .i)))
+    (c .before .before .before .before .before .pre .1, rw (c .u16-of .ensures .0) (c .before .before .before .before .before .pre .2 (c .before .before .before .loop .i)))
 
 turn-requires : tie.Need-turn-requires Inv-loop μ-loop
 turn-requires c κs = omega arith
@@ -52,8 +52,8 @@ unfolding mixedOf
 loop-again c = (
   omega arith,
   put-turn _ _ _ _ _ _ (c .before .before .before .before .before .before .loop .inv .1) zero-le
-      (c .raise .ensures ∙ ap raised (c .before .turn .ensures .0 ∙ ap (turned (c .before .before .before .wide .result % 2)) (c .before .before .sum .ensures .0))
-      ∙ ap (mixedOf _ _ _) (c .before .before .before .wide .ensures .0)),
+      (c .raise .ensures ∙ ap raised (c .before .turn .ensures .0 ∙ ap (turned (c .before .before .before .u16-of .result % 2)) (c .before .before .sum .ensures .0))
+      ∙ ap (mixedOf _ _ _) (c .before .before .before .u16-of .ensures .0)),
 )
 
 returns : tie.Need-returns Inv-loop μ-loop
@@ -67,8 +67,8 @@ mixed-all-spec =
     μ-loop
     eights-requires
     loop-holds
-    element-copy-out-wide
-    wide-requires
+    element-copy-out-u16-of
+    u16-of-requires
     sum-requires
     turn-requires
     raise-requires

@@ -24,20 +24,20 @@ eights-requires c κs = omega arith
 loop-holds : tie.Need-loop-holds Inv-loop μ-loop
 loop-holds c = (zero-le, put-none _ 0 _)
 
-element-copy-out-wide : tie.Need-element-copy-out-wide Inv-loop μ-loop
-element-copy-out-wide c = omega arith
+element-copy-out-u16-of : tie.Need-element-copy-out-u16-of Inv-loop μ-loop
+element-copy-out-u16-of c = omega arith
 
-wide-requires : tie.Need-wide-requires Inv-loop μ-loop
-wide-requires c κs = omega arith
+u16-of-requires : tie.Need-u16-of-requires Inv-loop μ-loop
+u16-of-requires c κs = omega arith
 
 mul-raise : tie.Need-mul-raise Inv-loop μ-loop
-mul-raise c = omega (arith, mul-le-mul (c .wide .ensures .1) (c .before .before .before .before .before .pre .1))
+mul-raise c = omega (arith, mul-le-mul (c .u16-of .ensures .1) (c .before .before .before .before .before .pre .1))
 
 shr-raise : tie.Need-shr-raise Inv-loop μ-loop
 shr-raise c = omega arith
 
 add-raise : tie.Need-add-raise Inv-loop μ-loop
-add-raise c = omega (arith, mul-le-mul (c .wide .ensures .1) (c .before .before .before .before .before .pre .1), shr-le (c .wide .result) (c .before .before .before .before .before .args .over))
+add-raise c = omega (arith, mul-le-mul (c .u16-of .ensures .1) (c .before .before .before .before .before .pre .1), shr-le (c .u16-of .result) (c .before .before .before .before .before .args .over))
 
 raise-requires : tie.Need-raise-requires Inv-loop μ-loop
 raise-requires c κs = omega arith
@@ -53,7 +53,7 @@ loop-less c = omega arith
 
 loop-again : tie.Need-loop-again Inv-loop μ-loop
 unfolding plainOf
-loop-again c = (omega arith, put-turn _ _ _ _ _ _ (c .before .before .before .before .loop .inv .1) zero-le (c .raise .ensures ∙ ap (plainOf _ _) (c .before .wide .ensures .0)))
+loop-again c = (omega arith, put-turn _ _ _ _ _ _ (c .before .before .before .before .loop .inv .1) zero-le (c .raise .ensures ∙ ap (plainOf _ _) (c .before .u16-of .ensures .0)))
 
 returns : tie.Need-returns Inv-loop μ-loop
 returns c = put-end _ _ _ _ _ _ (c .before .loop .inv .1) (omega arith) (omega arith)
@@ -66,8 +66,8 @@ plain-all-spec =
     μ-loop
     eights-requires
     loop-holds
-    element-copy-out-wide
-    wide-requires
+    element-copy-out-u16-of
+    u16-of-requires
     mul-raise
     shr-raise
     add-raise

@@ -10,8 +10,8 @@ use Rattle.texels_paint.proofs.mixed.channel_by.Tie as tie
 enum-told : tie.Need-enum-told
 enum-told c = search needs
 
-wide-requires : tie.Need-wide-requires
-wide-requires c κs = search needs
+u16-of-requires : tie.Need-u16-of-requires
+u16-of-requires c κs = search needs
 
 select-color-byte-requires : tie.Need-select-color-byte-requires
 select-color-byte-requires c κs =
@@ -35,7 +35,7 @@ hdr-channel-requires c κs =
 
 returns : tie.Need-returns
 unfolding channelBy
-returns c = channel-of _ _ _ (c .before .before .enum-told .given .1) (rw (c .before .wide .ensures .0) at (c .select-color-byte .ensures .0))
+returns c = channel-of _ _ _ (c .before .before .enum-told .given .1) (rw (c .before .u16-of .ensures .0) at (c .select-color-byte .ensures .0))
 
 returns-2 : tie.Need-returns-2
 unfolding channelBy
@@ -46,7 +46,7 @@ channel-by-spec =
     tie.close
     (tie.spec
     enum-told
-    wide-requires
+    u16-of-requires
     select-color-byte-requires
     cast-result
     enum-told-2

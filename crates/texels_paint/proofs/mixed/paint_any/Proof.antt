@@ -12,11 +12,11 @@ use Rattle.texels_paint.proofs.mixed.paint_any.Statement.{statement}
 use Rattle.texels_paint.proofs.mixed.paint_any.Tie as tie
 
 abbrev Inv-loop : tie.InvT-loop
-Inv-loop out₀ n w k map ends m i₀ out i =
-    (i ≤ eights n) × (out ≡ put (laneAt (λ (i : ℕ). wordAt (getD ends (getD map i 0) nothing) w k i)) 0 (2 * i) out₀)
+Inv-loop out₀ n w k partitions ends m i₀ out i =
+    (i ≤ eights n) × (out ≡ put (laneAt (λ (i : ℕ). wordAt (getD ends (getD partitions i 0) nothing) w k i)) 0 (2 * i) out₀)
 
 abbrev μ-loop : tie.MeasureT-loop
-μ-loop out₀ n w k map ends m i₀ out i = eights n - i
+μ-loop out₀ n w k partitions ends m i₀ out i = eights n - i
 
 -- the texel's partition is one of four
 inside : (c : tie.After-place Inv-loop μ-loop) → c .place .result < 4

@@ -16,7 +16,7 @@ pub record Encoded (g : Grid) (q : ℕ) (seq : List ℕ) : Type 0 where
   pub past : (k : ℕ) → countOf g ≤ k → getD seq k 0 ≡ 0
 
 -- what `decode_weights` is given: the grid, its encoded weights of range q, and an output of zeros
-pub record Given (g : Grid) (q : ℕ) (seq out : List ℕ) : Type 0 where
+pub record WeightsGiven (g : Grid) (q : ℕ) (seq out : List ℕ) : Type 0 where
   pub fits : Fits g
   pub encoded : Encoded g q seq
   pub clear : out ≡ replicate mostWeights 0

@@ -12,11 +12,11 @@ use Rattle.sequence_groups.specs.Sequence.{valuesOf}
 use Rattle.sequence_groups.specs.SequenceLaws.{values-lt, values-past}
 use Rattle.weights_grid.specs.declared.Grid.{Grid}
 
-pub record Encoded (q n : ℕ) (seq : List ℕ) : Type 0 where
+pub record ValuesIn (q n : ℕ) (seq : List ℕ) : Type 0 where
   pub below : (k : ℕ) → getD seq k 0 < levels (rangeOf q)
   pub past : (k : ℕ) → n ≤ k → getD seq k 0 ≡ 0
 
-pub decoded : (q n w : ℕ) (r : Range) (seq : List ℕ) → r ≡ rangeOf q → seq ≡ valuesOf r w n → Encoded q n seq
+pub decoded : (q n w : ℕ) (r : Range) (seq : List ℕ) → r ≡ rangeOf q → seq ≡ valuesOf r w n → ValuesIn q n seq
 decoded q n w r seq e d = rw (d, e) (record { below = values-lt (rangeOf q) w n; past = values-past (rangeOf q) w n })
 
 -- four numbers below 16
@@ -28,7 +28,7 @@ all-four a b c d h k l m (suc (suc (suc zero))) = m
 all-four a b c d h k l m (suc (suc (suc (suc i)))) = omega arith
 
 -- a grid inside a footprint whose sides are listed
-pub record Inside (g : Grid) : Type 0 where
+pub record GridInside (g : Grid) : Type 0 where
   pub sides : Sides (g .footprint)
   pub wide : (2 ≤ g .width) × (g .width ≤ g .footprint .width)
   pub high : (2 ≤ g .height) × (g .height ≤ g .footprint .height)
