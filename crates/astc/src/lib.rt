@@ -15,7 +15,10 @@ use image_shape::Shape;
 // uint32_t astc_decode_block(const uint8_t *block, size_t block_len, size_t bw, size_t bh, uint32_t *out, size_t out_len)
 #[no_mangle]
 pub extern "C" fn astc_decode_block(block: &[u8], bw: usize, bh: usize, out: &mut [u32]) -> u32
-    ensures { λ a. ⌜ (a ≡ answerOf (now (block .entry)) (footprint bw bh) (length (now (out .entry)))) × (now (out .exit) ≡ paintedOf (now (block .entry)) (footprint bw bh) (now (out .entry))) ⌝ }
+    ensures { λ a. ⌜ a ≡
+        answerOf (now (block .entry)) (footprint bw bh) (length (now (out .entry))) ⌝ }
+    ensures { λ a. ⌜ now (out .exit) ≡
+        paintedOf (now (block .entry)) (footprint bw bh) (now (out .entry)) ⌝ }
 {
     let f = Footprint {
         width: bw,
@@ -27,7 +30,11 @@ pub extern "C" fn astc_decode_block(block: &[u8], bw: usize, bh: usize, out: &mu
 // uint32_t astc_block_map(const uint8_t *block, size_t block_len, size_t bw, size_t bh, uint32_t *map, size_t map_len)
 #[no_mangle]
 pub extern "C" fn astc_block_map(block: &[u8], bw: usize, bh: usize, map: &mut [u32]) -> u32
-    ensures { λ a. ⌜ (a ≡ mapAnswerIn (blockMap (now (block .entry)) (footprint bw bh)) (length (now (map .entry)))) × (now (map .exit) ≡ mapIn (blockMap (now (block .entry)) (footprint bw bh)) (now (map .entry))) ⌝ }
+    ensures { λ a. ⌜ a ≡
+        mapAnswerIn (blockMap (now (block .entry)) (footprint bw bh))
+        (length (now (map .entry))) ⌝ }
+    ensures { λ a. ⌜ now (map .exit) ≡
+        mapIn (blockMap (now (block .entry)) (footprint bw bh)) (now (map .entry)) ⌝ }
 {
     astc_numbers::put_map(block, bw, bh, map) as u32
 }
@@ -43,7 +50,15 @@ pub extern "C" fn astc_block_channels(
     channels: &mut [u32],
     floats: &mut [u8],
 ) -> u32
-    ensures { λ a. ⌜ (a ≡ channelsAnswer options (now (block .entry)) (footprint bw bh) (length (now (channels .entry))) (length (now (floats .entry)))) × (now (channels .exit) ≡ channelsIn options (now (block .entry)) (footprint bw bh) (length (now (floats .entry))) (now (channels .entry))) × (now (floats .exit) ≡ floatsIn options (now (block .entry)) (footprint bw bh) (length (now (channels .entry))) (now (floats .entry))) ⌝ }
+    ensures { λ a. ⌜ (a ≡
+        channelsAnswer options (now (block .entry)) (footprint bw bh)
+        (length (now (channels .entry))) (length (now (floats .entry)))) ×
+        (now (channels .exit) ≡
+        channelsIn options (now (block .entry)) (footprint bw bh) (length (now (floats .entry)))
+        (now (channels .entry))) ×
+        (now (floats .exit) ≡
+        floatsIn options (now (block .entry)) (footprint bw bh) (length (now (channels .entry)))
+        (now (floats .entry))) ⌝ }
 {
     let refused = astc_checks::options_refusal(options);
     if refused != 0 {
@@ -67,7 +82,11 @@ pub extern "C" fn astc_decode_image(
     bh: usize,
     out: &mut [u32],
 ) -> u32
-    ensures { λ a. ⌜ (a ≡ refusalOf (shape width height bw bh) (length (now («data» .entry))) (length (now (out .entry)))) × (now (out .exit) ≡ imageOf (now («data» .entry)) (shape width height bw bh) (now (out .entry))) ⌝ }
+    ensures { λ a. ⌜ a ≡
+        refusalOf (shape width height bw bh) (length (now («data» .entry)))
+        (length (now (out .entry))) ⌝ }
+    ensures { λ a. ⌜ now (out .exit) ≡
+        imageOf (now («data» .entry)) (shape width height bw bh) (now (out .entry)) ⌝ }
 {
     let footprint = Footprint {
         width: bw,
@@ -95,7 +114,15 @@ pub extern "C" fn astc_image_step(
     out: &mut [u32],
     moved: &mut [u64],
 ) -> u32
-    ensures { λ a. ⌜ (a ≡ stepAnswerIn (cursor width height bw bh next) (length (now («data» .entry))) blocks (length (now (out .entry))) (length (now (moved .entry)))) × ((now (out .exit) ≡ steppedIn (now («data» .entry)) (cursor width height bw bh next) blocks (length (now (moved .entry))) (now (out .entry))) × (now (moved .exit) ≡ movedIn (now («data» .entry)) (cursor width height bw bh next) blocks (length (now (out .entry))) (now (moved .entry)))) ⌝ }
+    ensures { λ a. ⌜ a ≡
+        stepAnswerIn (cursor width height bw bh next) (length (now («data» .entry))) blocks
+        (length (now (out .entry))) (length (now (moved .entry))) ⌝ }
+    ensures { λ a. ⌜ now (out .exit) ≡
+        steppedIn (now («data» .entry)) (cursor width height bw bh next) blocks
+        (length (now (moved .entry))) (now (out .entry)) ⌝ }
+    ensures { λ a. ⌜ now (moved .exit) ≡
+        movedIn (now («data» .entry)) (cursor width height bw bh next) blocks
+        (length (now (out .entry))) (now (moved .entry)) ⌝ }
 {
     let footprint = Footprint {
         width: bw,

@@ -29,7 +29,8 @@ fn numbers_of(m: BlockMap) -> [u32; 9]
 
 fn put_numbers(out: &mut [u32], n: &[u32; 9])
     requires { ⌜ 9 ≤ length (now out) ⌝ }
-    ensures { λ _. ⌜ now (out .exit) ≡ put (λ (k : ℕ). getD (now (n .entry)) k 0) 0 9 (now (out .entry)) ⌝ }
+    ensures { λ _. ⌜ now (out .exit) ≡
+        put (λ (k : ℕ). getD (now (n .entry)) k 0) 0 9 (now (out .entry)) ⌝ }
 {
     let mut i = 0;
     while i < 9 {
@@ -40,7 +41,11 @@ fn put_numbers(out: &mut [u32], n: &[u32; 9])
 
 // Puts the map of a block at the footprint bw by bh into the first nine places of `map`, and gives the answer.
 pub fn put_map(block: &[u8], bw: usize, bh: usize, map: &mut [u32]) -> usize
-    ensures { λ a. ⌜ (a ≡ mapAnswerIn (blockMap (now (block .entry)) (footprint bw bh)) (length (now (map .entry)))) × (now (map .exit) ≡ mapIn (blockMap (now (block .entry)) (footprint bw bh)) (now (map .entry))) ⌝ }
+    ensures { λ a. ⌜ a ≡
+        mapAnswerIn (blockMap (now (block .entry)) (footprint bw bh))
+        (length (now (map .entry))) ⌝ }
+    ensures { λ a. ⌜ now (map .exit) ≡
+        mapIn (blockMap (now (block .entry)) (footprint bw bh)) (now (map .entry)) ⌝ }
 {
     let f = Footprint {
         width: bw,
@@ -61,7 +66,8 @@ pub fn put_map(block: &[u8], bw: usize, bh: usize, map: &mut [u32]) -> usize
 // Puts a step's next block, the blocks painted and those of them that break a rule into the first three places of `moved`.
 pub fn put_led(moved: &mut [u64], next: usize, painted: usize, bad: usize)
     requires { ⌜ 3 ≤ length (now moved) ⌝ }
-    ensures { λ _. ⌜ now (moved .exit) ≡ put (λ (k : ℕ). getD (ledTo next painted bad) k 0) 0 3 (now (moved .entry)) ⌝ }
+    ensures { λ _. ⌜ now (moved .exit) ≡
+        put (λ (k : ℕ). getD (ledTo next painted bad) k 0) 0 3 (now (moved .entry)) ⌝ }
 {
     moved[0] = next as u64;
     moved[1] = painted as u64;

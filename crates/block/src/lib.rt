@@ -18,7 +18,9 @@ pub const MAGENTA: u32 = 0xffff_00ff;
 // Paints the words of a block at a listed footprint and gives the answer. The tables are made for a block that is to be decoded alone.
 fn decode_words(s: &[u8], f: Footprint, out: &mut [u32]) -> usize
     requires { ⌜ (length (now s) ≡ 16) × ((listed f ≡ true) × (texelsOf f ≤ length (now out))) ⌝ }
-    ensures { λ a. ⌜ (a ≡ blockAnswer (blockBits (now (s .entry))) f) × (now (out .exit) ≡ put (wordAt (now (s .entry)) f) 0 (texelsOf f) (now (out .entry))) ⌝ }
+    ensures { λ a. ⌜ a ≡ blockAnswer (blockBits (now (s .entry))) f ⌝ }
+    ensures { λ a. ⌜ now (out .exit) ≡
+        put (wordAt (now (s .entry)) f) 0 (texelsOf f) (now (out .entry)) ⌝ }
 {
     let n = f.width * f.height;
     let b = block_load::load(s);
@@ -48,7 +50,8 @@ fn decode_words(s: &[u8], f: Footprint, out: &mut [u32]) -> usize
 
 // Paints the words of a block of sixteen bytes and gives the answer; a refusal leaves the output as it was.
 pub fn decode_astc_block(s: &[u8], f: Footprint, out: &mut [u32]) -> usize
-    ensures { λ a. ⌜ (a ≡ answerOf (now (s .entry)) f (length (now (out .entry)))) × (now (out .exit) ≡ paintedOf (now (s .entry)) f (now (out .entry))) ⌝ }
+    ensures { λ a. ⌜ a ≡ answerOf (now (s .entry)) f (length (now (out .entry))) ⌝ }
+    ensures { λ a. ⌜ now (out .exit) ≡ paintedOf (now (s .entry)) f (now (out .entry)) ⌝ }
 {
     let a = block_refusal::refusal(s.len(), f, out.len());
     if a != 0 {

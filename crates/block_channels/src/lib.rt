@@ -41,7 +41,8 @@ fn magenta() -> Samples
 // Puts the samples of a legal block that is not void, at a listed footprint, into lanes, and gives the block's answer.
 fn decode_samples(b: Block, f: Footprint, lanes: &mut [u16; LANES]) -> usize
     requires { ⌜ (isVoid (valueOf b) ≡ false) × (listed f ≡ true) ⌝ }
-    ensures { λ a. ⌜ (a ≡ blockAnswer (valueOf b) f) × (now (lanes .exit) ≡ lanesIn Form.Samples (valueOf b) f (now (lanes .entry))) ⌝ }
+    ensures { λ a. ⌜ a ≡ blockAnswer (valueOf b) f ⌝ }
+    ensures { λ a. ⌜ now (lanes .exit) ≡ lanesIn Form.Samples (valueOf b) f (now (lanes .entry)) ⌝ }
 {
     let tables = block_tables::make_tables();
     block_ordinary::decode_ordinary(
@@ -57,8 +58,12 @@ fn decode_samples(b: Block, f: Footprint, lanes: &mut [u16; LANES]) -> usize
 
 // Puts the numbers and the marks of a block at a listed footprint, and gives the answer.
 fn put_block(s: &[u8], f: Footprint, out: &mut [u32], floats: &mut [u8]) -> usize
-    requires { ⌜ (length (now s) ≡ 16) × (listed f ≡ true) × (4 * texelsOf f ≤ length (now out)) × (texelsOf f ≤ length (now floats)) ⌝ }
-    ensures { λ a. ⌜ (a ≡ blockAnswer (blockBits (now (s .entry))) f) × (now (out .exit) ≡ put (numberAt (now (s .entry)) f) 0 (4 * texelsOf f) (now (out .entry))) × (now (floats .exit) ≡ put (marksAt (now (s .entry)) f) 0 (texelsOf f) (now (floats .entry))) ⌝ }
+    requires { ⌜ (length (now s) ≡ 16) × (listed f ≡ true) × (4 * texelsOf f ≤ length (now out)) ×
+        (texelsOf f ≤ length (now floats)) ⌝ }
+    ensures { λ a. ⌜ (a ≡ blockAnswer (blockBits (now (s .entry))) f) ×
+        (now (out .exit) ≡ put (numberAt (now (s .entry)) f) 0 (4 * texelsOf f) (now (out .entry)))
+        × (now (floats .exit) ≡
+        put (marksAt (now (s .entry)) f) 0 (texelsOf f) (now (floats .entry))) ⌝ }
 {
     let n = f.width * f.height;
     let b = block_load::load(s);
@@ -117,7 +122,13 @@ fn room_of(places: usize, marks: usize) -> usize
 // Puts four numbers a texel into `out`, red, green, blue and alpha, bytes or the bits of floats, and into `floats` which of them are floats;
 // gives the answer. A refusal leaves both outputs as they were.
 pub fn decode_channels(s: &[u8], f: Footprint, out: &mut [u32], floats: &mut [u8]) -> usize
-    ensures { λ a. ⌜ (a ≡ answerOf (now (s .entry)) f (roomOf (length (now (out .entry))) (length (now (floats .entry))))) × (now (out .exit) ≡ numbersOf (now (s .entry)) f (length (now (floats .entry))) (now (out .entry))) × (now (floats .exit) ≡ marksIn (now (s .entry)) f (length (now (out .entry))) (now (floats .entry))) ⌝ }
+    ensures { λ a. ⌜ (a ≡
+        answerOf (now (s .entry)) f
+        (roomOf (length (now (out .entry))) (length (now (floats .entry))))) ×
+        (now (out .exit) ≡
+        numbersOf (now (s .entry)) f (length (now (floats .entry))) (now (out .entry))) ×
+        (now (floats .exit) ≡
+        marksIn (now (s .entry)) f (length (now (out .entry))) (now (floats .entry))) ⌝ }
 {
     let a = block_refusal::refusal(s.len(), f, room_of(out.len(), floats.len()));
     if a != 0 {

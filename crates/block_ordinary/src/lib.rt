@@ -54,7 +54,9 @@ fn weights_of(
     p: Params,
     f: Footprint,
 )
-    requires { ⌜ (now out ≡ replicate mostWeights 0) × ((Lent (now reversal) (now trits) (now quints)) × (Ready p f)) ⌝ }
+    requires { ⌜ now out ≡ replicate mostWeights 0 ⌝ }
+    requires { ⌜ Lent (now reversal) (now trits) (now quints) ⌝ }
+    requires { ⌜ Ready p f ⌝ }
     ensures { λ _. ⌜ now (out .exit) ≡ weightsIn p f (weightsField p (valueOf b)) ⌝ }
 {
     let k = p.config;
@@ -162,8 +164,11 @@ fn put_if_legal<'a>(
     lanes: &mut [u16; LANES],
     form: Form,
 ) -> usize
-    requires { ⌜ (Lent (now reversal) (now trits) (now quints)) × ((isVoid (valueOf b) ≡ false) × (listed f ≡ true)) ⌝ }
-    ensures { λ a. ⌜ (a ≡ blockAnswer (valueOf b) f) × (now (lanes .exit) ≡ lanesIn form (valueOf b) f (now (lanes .entry))) ⌝ }
+    requires { ⌜ Lent (now reversal) (now trits) (now quints) ⌝ }
+    requires { ⌜ isVoid (valueOf b) ≡ false ⌝ }
+    requires { ⌜ listed f ≡ true ⌝ }
+    ensures { λ a. ⌜ a ≡ blockAnswer (valueOf b) f ⌝ }
+    ensures { λ a. ⌜ now (lanes .exit) ≡ lanesIn form (valueOf b) f (now (lanes .entry)) ⌝ }
 {
     let p = params::decode_block_params(b, f);
     let a = p.answer;
@@ -185,8 +190,11 @@ pub fn decode_ordinary<'a>(
     lanes: &mut [u16; LANES],
     form: Form,
 ) -> usize
-    requires { ⌜ (Lent (now reversal) (now trits) (now quints)) × ((isVoid (valueOf b) ≡ false) × (listed f ≡ true)) ⌝ }
-    ensures { λ a. ⌜ (a ≡ blockAnswer (valueOf b) f) × (now (lanes .exit) ≡ lanesIn form (valueOf b) f (now (lanes .entry))) ⌝ }
+    requires { ⌜ Lent (now reversal) (now trits) (now quints) ⌝ }
+    requires { ⌜ isVoid (valueOf b) ≡ false ⌝ }
+    requires { ⌜ listed f ≡ true ⌝ }
+    ensures { λ a. ⌜ a ≡ blockAnswer (valueOf b) f ⌝ }
+    ensures { λ a. ⌜ now (lanes .exit) ≡ lanesIn form (valueOf b) f (now (lanes .entry)) ⌝ }
 {
     let own = Block { lo: b.lo, hi: b.hi };
     let foot = Footprint {

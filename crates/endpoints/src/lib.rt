@@ -79,7 +79,9 @@ fn decode_mode(mode: u8, v: Values) -> Endpoints
 
 // The endpoints of the first partitions, whose values stand one after the other.
 pub fn decode_endpoints(parts: usize, modes: [u8; 4], ev: &[u8; 32]) -> [Endpoints; 4]
-    requires { ⌜ (1 ≤ parts) × (parts ≤ 4) ⌝ ∗ ⌜ ((i : ℕ) → i < parts → getD modes i 0 < 16) ⌝ ∗ ⌜ countTo modes parts ≤ 18 ⌝ }
+    requires { ⌜ (1 ≤ parts) × (parts ≤ 4) ⌝ }
+    requires { ⌜ ((i : ℕ) → i < parts → getD modes i 0 < 16) ⌝ }
+    requires { ⌜ countTo modes parts ≤ 18 ⌝ }
     ensures { λ r. ⌜ r ≡ endpointsList parts modes (now (ev .entry)) ⌝ }
 {
     let none = no_endpoints();

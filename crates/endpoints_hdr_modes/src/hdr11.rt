@@ -16,7 +16,9 @@ use endpoints_rules::Rgb;
 
 fn first_eleven(e: Eleven) -> Rgb
     requires { ⌜ ElevenBounds e ⌝ }
-    ensures { λ r. ⌜ r ≡ rgb (less (e .a) (e .c)) (less (e .a) (e .b0 + e .c + e .d0)) (less (e .a) (e .b1 + e .c + e .d1)) ⌝ }
+    ensures { λ r. ⌜ r ≡
+        rgb (less (e .a) (e .c)) (less (e .a) (e .b0 + e .c + e .d0))
+        (less (e .a) (e .b1 + e .c + e .d1)) ⌝ }
 {
     hdr::rgb_of(
         hdr::lessened(e.a, e.c),
@@ -87,7 +89,8 @@ fn hdr_alphas(v: Values) -> Alphas
 
 // The alphas of modes 11, 14 and 15.
 pub(crate) fn alphas_of(mode: u8, v: Values) -> Alphas
-    ensures { λ r. ⌜ r ≡ cond (eqb mode 11) opaque (cond (eqb mode 14) (plainAlphas v) (hdrAlphas v)) ⌝ }
+    ensures { λ r. ⌜ r ≡
+        cond (eqb mode 11) opaque (cond (eqb mode 14) (plainAlphas v) (hdrAlphas v)) ⌝ }
 {
     if mode == 11 {
         return hdr::hdr_alphas_of(0x780, 0x780);

@@ -93,7 +93,9 @@ fn unpack(p: Rule, v: u8) -> u8
 // The values up to the next multiple of 8: a loop without a remainder.
 fn unpack_all(out: &mut [u8; 32], n: usize, p: Rule, seq: &[u8; 72])
     requires { ⌜ n ≤ 18 ⌝ ∗ ⌜ Narrow p ⌝ }
-    ensures { λ r. ⌜ now (out .exit) ≡ put (λ (k : ℕ). unpacked p (getD (now (seq .entry)) k 0)) 0 (eights n) (now (out .entry)) ⌝ }
+    ensures { λ r. ⌜ now (out .exit) ≡
+        put (λ (k : ℕ). unpacked p (getD (now (seq .entry)) k 0)) 0 (eights n)
+        (now (out .entry)) ⌝ }
 {
     let m = lanes::eights(n);
     let mut i = 0;
@@ -135,7 +137,8 @@ fn copy_bits(p: Repeat, v: u8) -> u8
 // The values up to the next multiple of 8: a loop without a remainder.
 fn copy_all(out: &mut [u8; 32], n: usize, p: Repeat, seq: &[u8; 72])
     requires { ⌜ n ≤ 18 ⌝ ∗ ⌜ NarrowRepeat p ⌝ }
-    ensures { λ r. ⌜ now (out .exit) ≡ put (λ (k : ℕ). copied p (getD (now (seq .entry)) k 0)) 0 (eights n) (now (out .entry)) ⌝ }
+    ensures { λ r. ⌜ now (out .exit) ≡
+        put (λ (k : ℕ). copied p (getD (now (seq .entry)) k 0)) 0 (eights n) (now (out .entry)) ⌝ }
 {
     let m = lanes::eights(n);
     let mut i = 0;
@@ -147,7 +150,10 @@ fn copy_all(out: &mut [u8; 32], n: usize, p: Repeat, seq: &[u8; 72])
 
 // The first n values of a sequence of the range q, each as the byte that it stands for.
 pub fn unquantize(out: &mut [u8; 32], n: usize, q: usize, seq: &[u8; 72])
-    requires { ⌜ now out ≡ replicate 32 0 ⌝ ∗ ⌜ (n ≤ 18) × (4 ≤ q) × (q < 21) ⌝ ∗ ⌜ ((i : ℕ) → getD (now seq) i 0 < levels (rangeOf q)) ⌝ ∗ ⌜ ((i : ℕ) → n ≤ i → getD (now seq) i 0 ≡ 0) ⌝ }
+    requires { ⌜ now out ≡ replicate 32 0 ⌝ }
+    requires { ⌜ (n ≤ 18) × (4 ≤ q) × (q < 21) ⌝ }
+    requires { ⌜ ((i : ℕ) → getD (now seq) i 0 < levels (rangeOf q)) ⌝ }
+    requires { ⌜ ((i : ℕ) → n ≤ i → getD (now seq) i 0 ≡ 0) ⌝ }
     ensures { λ r. ⌜ now (out .exit) ≡ endpointValues q (now (seq .entry)) ⌝ }
 {
     if q % 3 == 2 {

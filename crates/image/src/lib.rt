@@ -63,7 +63,8 @@ fn moved(c: Cursor, n: usize, bad: usize) -> Step
 
 // Paints the image of its blocks' bytes and gives the answer; a refusal leaves the output as it was.
 pub fn decode_astc(data: &[u8], m: Shape, out: &mut [u32]) -> usize
-    ensures { λ a. ⌜ (a ≡ refusalOf m (length (now («data» .entry))) (length (now (out .entry)))) × (now (out .exit) ≡ imageOf (now («data» .entry)) m (now (out .entry))) ⌝ }
+    ensures { λ a. ⌜ a ≡ refusalOf m (length (now («data» .entry))) (length (now (out .entry))) ⌝ }
+    ensures { λ a. ⌜ now (out .exit) ≡ imageOf (now («data» .entry)) m (now (out .entry)) ⌝ }
 {
     let a = image_shape::refusal(m, data.len(), out.len());
     if a != 0 {
@@ -77,7 +78,10 @@ pub fn decode_astc(data: &[u8], m: Shape, out: &mut [u32]) -> usize
 impl Cursor {
     // Paints the next blocks, as many as are asked for or are left. A refused step hands the cursor back as given.
     pub fn step(self, data: &[u8], blocks: usize, out: &mut [u32]) -> Step
-        ensures { λ r. ⌜ (r ≡ stepOf (now («data» .entry)) self blocks (length (now (out .entry)))) × (now (out .exit) ≡ stepped (now («data» .entry)) self blocks (now (out .entry))) ⌝ }
+        ensures { λ r. ⌜ r ≡
+            stepOf (now («data» .entry)) self blocks (length (now (out .entry))) ⌝ }
+        ensures { λ r. ⌜ now (out .exit) ≡
+            stepped (now («data» .entry)) self blocks (now (out .entry)) ⌝ }
     {
         let m = self.shape;
         let next = self.next;

@@ -59,8 +59,15 @@ fn paint_block<'a>(
     lanes: &mut [u16; LANES],
     out: &mut [u32],
 ) -> usize
-    requires { ⌜ Lent (now reversal) (now trits) (now quints) × (Sized m (length (now «data»)) (length (now out)) × ((at .block < totalOf m) × ((At m at) × (length (now lanes) ≡ mostLanes)))) ⌝ }
-    ensures { λ r. ⌜ (r ≡ mapAnswer (bytesOf (now («data» .entry)) (at .block)) (m .footprint)) × ((length (now (lanes .exit)) ≡ mostLanes) × (now (out .exit) ≡ paintedBlocks (now («data» .entry)) m (at .block) (at .block + 1) (now (out .entry)))) ⌝ }
+    requires { ⌜ Lent (now reversal) (now trits) (now quints) ⌝ }
+    requires { ⌜ Sized m (length (now «data»)) (length (now out)) ⌝ }
+    requires { ⌜ at .block < totalOf m ⌝ }
+    requires { ⌜ At m at ⌝ }
+    requires { ⌜ length (now lanes) ≡ mostLanes ⌝ }
+    ensures { λ r. ⌜ r ≡ mapAnswer (bytesOf (now («data» .entry)) (at .block)) (m .footprint) ⌝ }
+    ensures { λ r. ⌜ length (now (lanes .exit)) ≡ mostLanes ⌝ }
+    ensures { λ r. ⌜ now (out .exit) ≡
+        paintedBlocks (now («data» .entry)) m (at .block) (at .block + 1) (now (out .entry)) ⌝ }
 {
     let start = 16 * at.block;
     let end = start + 16;
@@ -70,7 +77,15 @@ fn paint_block<'a>(
         image_window::fill_block(block_void::void_color(b), m, at.column, at.row, out);
         return a;
     }
-    let answer = block_ordinary::decode_ordinary(reversal, trits, quints, b, m.footprint, lanes, Form::Words);
+    let answer = block_ordinary::decode_ordinary(
+        reversal,
+        trits,
+        quints,
+        b,
+        m.footprint,
+        lanes,
+        Form::Words,
+    );
     if answer == answers::LEGAL {
         image_window::copy_block(lanes, m, at.column, at.row, out);
         return answers::LEGAL;
@@ -81,8 +96,12 @@ fn paint_block<'a>(
 
 // Paints the blocks from `first` to before `end`, and counts those that break a rule.
 pub fn paint_blocks(data: &[u8], m: Shape, first: usize, end: usize, out: &mut [u32]) -> usize
-    requires { ⌜ Sized m (length (now «data»)) (length (now out)) × ((first ≤ end) × (end ≤ totalOf m)) ⌝ }
-    ensures { λ r. ⌜ (r ≡ badIn (now («data» .entry)) m first (end - first)) × (now (out .exit) ≡ paintedBlocks (now («data» .entry)) m first end (now (out .entry))) ⌝ }
+    requires { ⌜ Sized m (length (now «data»)) (length (now out)) ⌝ }
+    requires { ⌜ first ≤ end ⌝ }
+    requires { ⌜ end ≤ totalOf m ⌝ }
+    ensures { λ r. ⌜ r ≡ badIn (now («data» .entry)) m first (end - first) ⌝ }
+    ensures { λ r. ⌜ now (out .exit) ≡
+        paintedBlocks (now («data» .entry)) m first end (now (out .entry)) ⌝ }
 {
     let tables = block_tables::make_tables();
     let mut lanes = [0u16; LANES];

@@ -75,7 +75,9 @@ fn copy_rows(
     n: usize,
 )
     requires { ⌜ (RowsFit 0 bw n rows mostTexels) × (RowsFit at width n rows (length (now out))) ⌝ }
-    ensures { λ _. ⌜ now (out .exit) ≡ rowsPut (λ (y x : ℕ). joinedAt (now (lanes .entry)) (y * bw + x)) at width n rows (now (out .entry)) ⌝ }
+    ensures { λ _. ⌜ now (out .exit) ≡
+        rowsPut (λ (y x : ℕ). joinedAt (now (lanes .entry)) (y * bw + x)) at width n rows
+        (now (out .entry)) ⌝ }
 {
     let mut r = 0;
     while r < rows {
@@ -87,7 +89,9 @@ fn copy_rows(
 // Copies the words of the block in column x and row y to its pixels, as far as it lies in the image.
 pub fn copy_block(lanes: &[u16; LANES], m: Shape, x: usize, y: usize, out: &mut [u32])
     requires { ⌜ (ShapeBounds m) × ((Inside m x y) × (pixelsOf m ≤ length (now out))) ⌝ }
-    ensures { λ _. ⌜ now (out .exit) ≡ marked (isIn m (blockAt m x y) (blockAt m x y + 1)) (λ (k : ℕ). joinedAt (now (lanes .entry)) (texelOf m k)) (now (out .entry)) ⌝ }
+    ensures { λ _. ⌜ now (out .exit) ≡
+        marked (isIn m (blockAt m x y) (blockAt m x y + 1))
+        (λ (k : ℕ). joinedAt (now (lanes .entry)) (texelOf m k)) (now (out .entry)) ⌝ }
 {
     let w = window_of(m, x, y);
     copy_rows(
@@ -104,7 +108,8 @@ pub fn copy_block(lanes: &[u16; LANES], m: Shape, x: usize, y: usize, out: &mut 
 // Fills the first n places of each of the rows of out, which start `width` apart from place `at` on.
 fn fill_rows(word: u32, out: &mut [u32], at: usize, width: usize, rows: usize, n: usize)
     requires { ⌜ RowsFit at width n rows (length (now out)) ⌝ }
-    ensures { λ _. ⌜ now (out .exit) ≡ rowsPut (λ (y x : ℕ). word) at width n rows (now (out .entry)) ⌝ }
+    ensures { λ _. ⌜ now (out .exit) ≡
+        rowsPut (λ (y x : ℕ). word) at width n rows (now (out .entry)) ⌝ }
 {
     let mut r = 0;
     while r < rows {
@@ -117,7 +122,8 @@ fn fill_rows(word: u32, out: &mut [u32], at: usize, width: usize, rows: usize, n
 // loop of its own: of a number of places that the compiler knows.
 pub fn fill_block(word: u32, m: Shape, x: usize, y: usize, out: &mut [u32])
     requires { ⌜ (ShapeBounds m) × ((Inside m x y) × (pixelsOf m ≤ length (now out))) ⌝ }
-    ensures { λ _. ⌜ now (out .exit) ≡ marked (isIn m (blockAt m x y) (blockAt m x y + 1)) (λ (k : ℕ). word) (now (out .entry)) ⌝ }
+    ensures { λ _. ⌜ now (out .exit) ≡
+        marked (isIn m (blockAt m x y) (blockAt m x y + 1)) (λ (k : ℕ). word) (now (out .entry)) ⌝ }
 {
     let w = window_of(m, x, y);
     let columns = w.columns;

@@ -42,7 +42,8 @@ pub fn word(lanes: &[u16; LANES], i: usize) -> u32
 // Copies the words of texels from .. from + n to out[to .. to + n].
 pub fn copy(lanes: &[u16; LANES], from: usize, out: &mut [u32], to: usize, n: usize)
     requires { ⌜ (from + n ≤ mostTexels) × (to + n ≤ length (now out)) ⌝ }
-    ensures { λ _. ⌜ now (out .exit) ≡ putAt (λ (i : ℕ). joinedAt (now (lanes .entry)) (from + i)) to n (now (out .entry)) ⌝ }
+    ensures { λ _. ⌜ now (out .exit) ≡
+        putAt (λ (i : ℕ). joinedAt (now (lanes .entry)) (from + i)) to n (now (out .entry)) ⌝ }
 {
     let mut i = 0;
     while i < n {

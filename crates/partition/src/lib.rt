@@ -51,7 +51,8 @@ fn row_of_two(out: &mut [u8; TEXELS], o: usize, width: usize, a: Ramp, b: Ramp)
 
 fn two(out: &mut [u8; TEXELS], a: Ramp, b: Ramp, f: Footprint)
     requires { ⌜ (Gentle a) × ((Gentle b) × (Sides f)) ⌝ }
-    ensures { λ r. ⌜ now (out .exit) ≡ put (texels (ofTwo a b) (f .width)) 0 (texelsOf f) (now (out .entry)) ⌝ }
+    ensures { λ r. ⌜ now (out .exit) ≡
+        put (texels (ofTwo a b) (f .width)) 0 (texelsOf f) (now (out .entry)) ⌝ }
 {
     let width = f.width;
     let height = f.height;
@@ -80,7 +81,12 @@ fn largest_of_four(a: u16, b: u16, c: u16, d: u16) -> u8
 }
 
 fn row_of_four(out: &mut [u8; TEXELS], o: usize, width: usize, a: Ramp, b: Ramp, c: Ramp, d: Ramp)
-    requires { ⌜ (Gentle a) × ((Gentle b) × ((Gentle c) × ((Gentle d) × ((o + width ≤ mostTexels) × (width ≤ 12))))) ⌝ }
+    requires { ⌜ Gentle a ⌝ }
+    requires { ⌜ Gentle b ⌝ }
+    requires { ⌜ Gentle c ⌝ }
+    requires { ⌜ Gentle d ⌝ }
+    requires { ⌜ o + width ≤ mostTexels ⌝ }
+    requires { ⌜ width ≤ 12 ⌝ }
     ensures { λ r. ⌜ now (out .exit) ≡ putAt (inRowOfFour a b c d) o width (now (out .entry)) ⌝ }
 {
     let mut s = 0;
@@ -92,7 +98,8 @@ fn row_of_four(out: &mut [u8; TEXELS], o: usize, width: usize, a: Ramp, b: Ramp,
 
 fn four(out: &mut [u8; TEXELS], a: Ramp, b: Ramp, c: Ramp, d: Ramp, f: Footprint)
     requires { ⌜ (Gentle a) × ((Gentle b) × ((Gentle c) × ((Gentle d) × (Sides f)))) ⌝ }
-    ensures { λ r. ⌜ now (out .exit) ≡ put (texels (ofFour a b c d) (f .width)) 0 (texelsOf f) (now (out .entry)) ⌝ }
+    ensures { λ r. ⌜ now (out .exit) ≡
+        put (texels (ofFour a b c d) (f .width)) 0 (texelsOf f) (now (out .entry)) ⌝ }
 {
     let width = f.width;
     let height = f.height;
@@ -122,7 +129,8 @@ fn scale_of(f: Footprint) -> u16
 // fourth ramp is flat.
 pub fn select_partition(out: &mut [u8; TEXELS], number: u32, parts: usize, f: Footprint)
     requires { ⌜ (number < 1024) × (((2 ≤ parts) × (parts ≤ 4)) × (Sides f)) ⌝ }
-    ensures { λ _. ⌜ now (out .exit) ≡ put (partitionAt number parts f) 0 (texelsOf f) (now (out .entry)) ⌝ }
+    ensures { λ _. ⌜ now (out .exit) ≡
+        put (partitionAt number parts f) 0 (texelsOf f) (now (out .entry)) ⌝ }
 {
     let seed = number + 1024 * (parts as u32 - 1);
     let r = partition_ramps::hash(seed);

@@ -21,7 +21,8 @@ fn expected(whole: &[u32], n: usize, k: usize) -> u32
 // How many of the words hold something else than they should where n words were painted, as `whole` has them.
 pub fn count_differences(words: &[u32], whole: &[u32], n: usize) -> usize
     requires { ⌜ length (now words) ≡ length (now whole) ⌝ }
-    ensures { λ r. ⌜ r ≡ differences (now (words .entry)) (now (whole .entry)) n (length (now (words .entry))) ⌝ }
+    ensures { λ r. ⌜ r ≡
+        differences (now (words .entry)) (now (whole .entry)) n (length (now (words .entry))) ⌝ }
 {
     let mut found = 0;
     let mut k = 0;

@@ -304,7 +304,8 @@ fn offset_of(parts: usize) -> usize
 }
 
 fn put_partitions(out: &mut [u8; 288], parts: usize, modes: [u8; 4], q: usize, n: usize, b: Block)
-    requires { ⌜ ((1 ≤ parts) × (parts ≤ 4)) × (((i : ℕ) → getD modes i 0 < 16) × ((n ≡ countTo modes parts) × ((n ≤ 18) × ((4 ≤ q) × (q < 21))))) ⌝ }
+    requires { ⌜ ((1 ≤ parts) × (parts ≤ 4)) × (((i : ℕ) → getD modes i 0 < 16) ×
+        ((n ≡ countTo modes parts) × ((n ≤ 18) × ((4 ≤ q) × (q < 21))))) ⌝ }
 {
     let seq = values_of(b, q, n, offset_of(parts), false);
     let mut ev = [0u8; 32];
@@ -317,7 +318,8 @@ fn put_partitions(out: &mut [u8; 288], parts: usize, modes: [u8; 4], q: usize, n
 }
 
 fn put_modes(out: &mut [u8; 288], parts: usize, modes: [u8; 4], q: usize, b: Block)
-    requires { ⌜ ((1 ≤ parts) × (parts ≤ 4)) × (((i : ℕ) → getD modes i 0 < 16) × ((4 ≤ q) × (q < 21))) ⌝ }
+    requires { ⌜ ((1 ≤ parts) × (parts ≤ 4)) ×
+        (((i : ℕ) → getD modes i 0 < 16) × ((4 ≤ q) × (q < 21))) ⌝ }
 {
     let n = count_to(modes, parts);
     if n <= 18 {

@@ -19,7 +19,8 @@ fn usize_of(x: u8) -> usize
 
 // Paints the words of the block in a record's bytes and gives its answer.
 fn answer_of(bytes: &[u8], words: &mut [u32]) -> usize
-    ensures { λ r. ⌜ (r ≡ answerIn (now (bytes .entry)) (length (now (words .entry)))) × (now (words .exit) ≡ wordsIn (now (bytes .entry)) (now (words .entry))) ⌝ }
+    ensures { λ r. ⌜ r ≡ answerIn (now (bytes .entry)) (length (now (words .entry))) ⌝ }
+    ensures { λ r. ⌜ now (words .exit) ≡ wordsIn (now (bytes .entry)) (now (words .entry)) ⌝ }
 {
     if bytes.len() != 18 {
         return answers::BLOCK_LENGTH;
@@ -34,7 +35,9 @@ fn answer_of(bytes: &[u8], words: &mut [u32]) -> usize
 // Lays out the line of a record and gives its length.
 fn lay_out_record(line: &mut [u8], number: u64, bytes: &[u8]) -> usize
     requires { ⌜ 126 ≤ length (now line) ⌝ }
-    ensures { λ r. ⌜ Placed (now (line .entry)) 0 (recordLine number (now (bytes .entry))) (now (line .exit)) r × (r ≤ 126) ⌝ }
+    ensures { λ r. ⌜ Placed (now (line .entry)) 0 (recordLine number (now (bytes .entry)))
+        (now (line .exit)) r ⌝ }
+    ensures { λ r. ⌜ r ≤ 126 ⌝ }
 {
     let mut words = [0u32; TEXELS];
     let answer = answer_of(bytes, &mut words);

@@ -20,7 +20,9 @@ fn usize_of(x: u8) -> usize
 
 // The footprint of a record.
 fn footprint_of(head: &[u8; 19]) -> Footprint
-    ensures { λ r. ⌜ (r ≡ footprintIn (now (head .entry))) × ((r .width < 256) × (r .height < 256)) ⌝ }
+    ensures { λ r. ⌜ r ≡ footprintIn (now (head .entry)) ⌝ }
+    ensures { λ r. ⌜ r .width < 256 ⌝ }
+    ensures { λ r. ⌜ r .height < 256 ⌝ }
 {
     Footprint {
         width: usize_of(head[0]),
@@ -65,7 +67,8 @@ fn read_record(head: &mut [u8; 19], stored: &mut [u8]) -> Record
 
 // Decodes the block of a whole record anew and counts the record, and its stored answer among the answers.
 fn replay_record(t: Tally, answers: &mut [usize; 256], head: &[u8; 19], stored: &[u8; 576]) -> Tally
-    ensures { λ r. ⌜ (r ≡ replayedIn t (now (head .entry)) (now (stored .entry))) × (now (answers .exit) ≡ answerIn (now (answers .entry)) (now (head .entry))) ⌝ }
+    ensures { λ r. ⌜ r ≡ replayedIn t (now (head .entry)) (now (stored .entry)) ⌝ }
+    ensures { λ r. ⌜ now (answers .exit) ≡ answerIn (now (answers .entry)) (now (head .entry)) ⌝ }
 {
     let mut words = [MARKER; TEXELS];
     let f = footprint_of(head);

@@ -53,7 +53,8 @@ fn texels(head: &[u8; 19]) -> usize
 
 // Whether a decoder gave another answer than is stored, or other words in any place.
 fn differs(head: &[u8; 19], stored: &[u8; 576], answer: usize, words: &[u32; TEXELS]) -> bool
-    ensures { λ r. ⌜ r ≡ differsFrom (now (head .entry)) (now (stored .entry)) answer (now (words .entry)) ⌝ }
+    ensures { λ r. ⌜ r ≡
+        differsFrom (now (head .entry)) (now (stored .entry)) answer (now (words .entry)) ⌝ }
 {
     if answer != usize_of(head[2]) {
         return true;
@@ -106,7 +107,9 @@ pub fn count_record(
     answer: usize,
     words: &[u32; TEXELS],
 ) -> Tally
-    ensures { λ r. ⌜ (r ≡ recordIn t (now (head .entry)) (now (stored .entry)) answer (now (words .entry))) × (now (answers .exit) ≡ answerIn (now (answers .entry)) (now (head .entry))) ⌝ }
+    ensures { λ r. ⌜ r ≡
+        recordIn t (now (head .entry)) (now (stored .entry)) answer (now (words .entry)) ⌝ }
+    ensures { λ r. ⌜ now (answers .exit) ≡ answerIn (now (answers .entry)) (now (head .entry)) ⌝ }
 {
     let stored_answer = usize_of(head[2]);
     answers[stored_answer] = program_counts::added(answers[stored_answer], 1);

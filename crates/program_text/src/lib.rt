@@ -21,7 +21,8 @@ pub fn put_text(line: &mut [u8], at: usize, text: &[u8]) -> usize
 // Puts a number's decimal digits into the line at a place, and gives the place after them.
 pub fn put_number(line: &mut [u8], at: usize, n: u64) -> usize
     requires { ⌜ at + 20 ≤ length (now line) ⌝ }
-    ensures { λ r. ⌜ Placed (now (line .entry)) at (decimal n) (now (line .exit)) r × (r ≤ at + 20) ⌝ }
+    ensures { λ r. ⌜ Placed (now (line .entry)) at (decimal n) (now (line .exit)) r ⌝ }
+    ensures { λ r. ⌜ r ≤ at + 20 ⌝ }
 {
     let mut digits = [0u8; 20];
     let count = io::decimal(n, &mut digits);
@@ -31,7 +32,9 @@ pub fn put_number(line: &mut [u8], at: usize, n: u64) -> usize
 // Lays out a line of a label and a count, and gives its length.
 pub fn lay_out_count(line: &mut [u8], label: &[u8], count: usize) -> usize
     requires { ⌜ length (now label) + 21 ≤ length (now line) ⌝ }
-    ensures { λ r. ⌜ Placed (now (line .entry)) 0 (countLine (now (label .entry)) count) (now (line .exit)) r × (r ≤ length (now (line .entry))) ⌝ }
+    ensures { λ r. ⌜ Placed (now (line .entry)) 0 (countLine (now (label .entry)) count)
+        (now (line .exit)) r ⌝ }
+    ensures { λ r. ⌜ r ≤ length (now (line .entry)) ⌝ }
 {
     let start = put_text(line, 0, label);
     let after = put_number(line, start, count as u64);

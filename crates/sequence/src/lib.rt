@@ -21,8 +21,10 @@ pub fn decode_intseq(
     r: Range,
     n: usize,
 )
-    requires { ⌜ (now out ≡ replicate 72 0) × (now trits ≡ tritTable) × (now quints ≡ quintTable) × (r .bits ≤ most (r .kind)) × (n ≤ 64) × (offset ≤ 128) ⌝ }
-    ensures { λ _. ⌜ now (out .exit) ≡ valuesOf r (bitsAt (valueOf block) offset (totalOf r n)) n ⌝ }
+    requires { ⌜ (now out ≡ replicate 72 0) × (now trits ≡ tritTable) × (now quints ≡ quintTable) ×
+        (r .bits ≤ most (r .kind)) × (n ≤ 64) × (offset ≤ 128) ⌝ }
+    ensures { λ _. ⌜ now (out .exit) ≡
+        valuesOf r (bitsAt (valueOf block) offset (totalOf r n)) n ⌝ }
 {
     sequence_values::decode(
         out,
@@ -44,8 +46,18 @@ pub fn decode_intseq_reverse(
     r: Range,
     n: usize,
 )
-    requires { ⌜ (now out ≡ replicate 72 0) × (now reversal ≡ reversals) × (now trits ≡ tritTable) × (now quints ≡ quintTable) × (r .bits ≤ most (r .kind)) × (n ≤ 64) ⌝ }
-    ensures { λ _. ⌜ now (out .exit) ≡ valuesOf r (bitsAt (reversed 128 (valueOf block)) 0 (totalOf r n)) n ⌝ }
+    requires { ⌜ (now out ≡ replicate 72 0) × (now reversal ≡ reversals) × (now trits ≡ tritTable) ×
+        (now quints ≡ quintTable) × (r .bits ≤ most (r .kind)) × (n ≤ 64) ⌝ }
+    ensures { λ _. ⌜ now (out .exit) ≡
+        valuesOf r (bitsAt (reversed 128 (valueOf block)) 0 (totalOf r n)) n ⌝ }
 {
-    decode_intseq(out, trits, quints, bits_reversal::reverse(reversal, block), 0, r, n)
+    decode_intseq(
+        out,
+        trits,
+        quints,
+        bits_reversal::reverse(reversal, block),
+        0,
+        r,
+        n,
+    )
 }

@@ -57,7 +57,8 @@ fn value(e: u64, d: u64, b: usize) -> u8
 // The five values of the group d.
 pub fn put_trits(out: &mut [u8; 72], i: usize, trits: &[u16; 256], b: usize, d: u64)
     requires { ⌜ (i ≤ 64) × (now trits ≡ tritTable) × (b ≤ 6) ⌝ }
-    ensures { λ _. ⌜ now (out .exit) ≡ put (groupFrom (range Kind.Trits b) d i) i (i + 5) (now (out .entry)) ⌝ }
+    ensures { λ _. ⌜ now (out .exit) ≡
+        put (groupFrom (range Kind.Trits b) d i) i (i + 5) (now (out .entry)) ⌝ }
 {
     let e = trit_digits(trits, b, d);
     let mut m = d;
@@ -75,7 +76,8 @@ pub fn put_trits(out: &mut [u8; 72], i: usize, trits: &[u16; 256], b: usize, d: 
 // The three values of the group d.
 pub fn put_quints(out: &mut [u8; 72], i: usize, quints: &[u16; 128], b: usize, d: u64)
     requires { ⌜ (i ≤ 64) × (now quints ≡ quintTable) × (b ≤ 5) ⌝ }
-    ensures { λ _. ⌜ now (out .exit) ≡ put (groupFrom (range Kind.Quints b) d i) i (i + 3) (now (out .entry)) ⌝ }
+    ensures { λ _. ⌜ now (out .exit) ≡
+        put (groupFrom (range Kind.Quints b) d i) i (i + 3) (now (out .entry)) ⌝ }
 {
     let e = quint_digits(quints, b, d);
     let mut m = d;

@@ -72,8 +72,16 @@ fn decode_quints_by(out: &mut [u8; 72], quints: &[u16; 128], w: Block, b: usize,
 }
 
 // The n values of the sequence w, put into out, which is all 0.
-pub fn decode(out: &mut [u8; 72], trits: &[u16; 256], quints: &[u16; 128], w: Block, r: Range, n: usize)
-    requires { ⌜ (now out ≡ replicate 72 0) × (now trits ≡ tritTable) × (now quints ≡ quintTable) × (r .bits ≤ most (r .kind)) × (n ≤ 64) ⌝ }
+pub fn decode(
+    out: &mut [u8; 72],
+    trits: &[u16; 256],
+    quints: &[u16; 128],
+    w: Block,
+    r: Range,
+    n: usize,
+)
+    requires { ⌜ (now out ≡ replicate 72 0) × (now trits ≡ tritTable) × (now quints ≡ quintTable) ×
+        (r .bits ≤ most (r .kind)) × (n ≤ 64) ⌝ }
     ensures { λ _. ⌜ now (out .exit) ≡ valuesOf r (valueOf w) n ⌝ }
 {
     let k = r.kind;

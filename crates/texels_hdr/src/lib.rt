@@ -51,8 +51,11 @@ fn u16_of(x: u8) -> u16
 
 // One HDR channel of the texels of one partition; the weights start at x.
 fn hdr_one(out: &mut [u8; TEXELS], n: usize, w: &[u8; WEIGHTS], x: usize, v0: u16, v1: u16)
-    requires { ⌜ (n ≤ mostTexels) × (x ≤ mostTexels) × (v0 < 4096) × (v1 < 4096) ⌝ ∗ ⌜ ((i : ℕ) → getD (now w) i 0 ≤ 64) ⌝ }
-    ensures { λ _. ⌜ now (out .exit) ≡ put (λ (i : ℕ). hdrChannel v0 v1 (getD (now (w .entry)) (x + i) 0)) 0 (eights n) (now (out .entry)) ⌝ }
+    requires { ⌜ (n ≤ mostTexels) × (x ≤ mostTexels) × (v0 < 4096) × (v1 < 4096) ⌝ }
+    requires { ⌜ ((i : ℕ) → getD (now w) i 0 ≤ 64) ⌝ }
+    ensures { λ _. ⌜ now (out .exit) ≡
+        put (λ (i : ℕ). hdrChannel v0 v1 (getD (now (w .entry)) (x + i) 0)) 0 (eights n)
+        (now (out .entry)) ⌝ }
 {
     let m = eights(n);
     let mut i = 0;
@@ -65,7 +68,8 @@ fn hdr_one(out: &mut [u8; TEXELS], n: usize, w: &[u8; WEIGHTS], x: usize, v0: u1
 // The same where both endpoints have the number v, which no weight changes: the alpha of an opaque colour.
 fn hdr_flat(out: &mut [u8; TEXELS], n: usize, v: u16)
     requires { ⌜ (n ≤ mostTexels) × (v < 4096) ⌝ }
-    ensures { λ _. ⌜ now (out .exit) ≡ put (λ (i : ℕ). hdrChannel v v 0) 0 (eights n) (now (out .entry)) ⌝ }
+    ensures { λ _. ⌜ now (out .exit) ≡
+        put (λ (i : ℕ). hdrChannel v v 0) 0 (eights n) (now (out .entry)) ⌝ }
 {
     let x = hdr_channel(v, v, 0);
     let m = eights(n);
@@ -86,8 +90,12 @@ fn hdr_two(
     a: Four,
     b: Four,
 )
-    requires { ⌜ (n ≤ mostTexels) × (x ≤ mostTexels) × Wide a × Wide b ⌝ ∗ ⌜ ((i : ℕ) → getD (now w) i 0 ≤ 64) ⌝ ∗ ⌜ ((i : ℕ) → getD (now partitions) i 0 < 2) ⌝ }
-    ensures { λ _. ⌜ now (out .exit) ≡ put (hdrAt a b (now (w .entry)) (now (partitions .entry)) x) 0 (eights n) (now (out .entry)) ⌝ }
+    requires { ⌜ (n ≤ mostTexels) × (x ≤ mostTexels) × Wide a × Wide b ⌝ }
+    requires { ⌜ ((i : ℕ) → getD (now w) i 0 ≤ 64) ⌝ }
+    requires { ⌜ ((i : ℕ) → getD (now partitions) i 0 < 2) ⌝ }
+    ensures { λ _. ⌜ now (out .exit) ≡
+        put (hdrAt a b (now (w .entry)) (now (partitions .entry)) x) 0 (eights n)
+        (now (out .entry)) ⌝ }
 {
     let a0 = a.a;
     let a1 = a.b;
@@ -112,8 +120,12 @@ fn hdr_four(
     a: Four,
     b: Four,
 )
-    requires { ⌜ (n ≤ mostTexels) × (x ≤ mostTexels) × Wide a × Wide b ⌝ ∗ ⌜ ((i : ℕ) → getD (now w) i 0 ≤ 64) ⌝ ∗ ⌜ ((i : ℕ) → getD (now partitions) i 0 < 4) ⌝ }
-    ensures { λ _. ⌜ now (out .exit) ≡ put (hdrAt a b (now (w .entry)) (now (partitions .entry)) x) 0 (eights n) (now (out .entry)) ⌝ }
+    requires { ⌜ (n ≤ mostTexels) × (x ≤ mostTexels) × Wide a × Wide b ⌝ }
+    requires { ⌜ ((i : ℕ) → getD (now w) i 0 ≤ 64) ⌝ }
+    requires { ⌜ ((i : ℕ) → getD (now partitions) i 0 < 4) ⌝ }
+    ensures { λ _. ⌜ now (out .exit) ≡
+        put (hdrAt a b (now (w .entry)) (now (partitions .entry)) x) 0 (eights n)
+        (now (out .entry)) ⌝ }
 {
     let a0 = a.a;
     let a1 = a.b;
@@ -134,8 +146,11 @@ fn hdr_four(
 
 // One HDR channel of the texels of one partition.
 fn hdr_single(out: &mut [u8; TEXELS], n: usize, w: &[u8; WEIGHTS], x: usize, v0: u16, v1: u16)
-    requires { ⌜ (n ≤ mostTexels) × (x ≤ mostTexels) × (v0 < 4096) × (v1 < 4096) ⌝ ∗ ⌜ ((i : ℕ) → getD (now w) i 0 ≤ 64) ⌝ }
-    ensures { λ _. ⌜ now (out .exit) ≡ put (λ (i : ℕ). hdrChannel v0 v1 (getD (now (w .entry)) (x + i) 0)) 0 (eights n) (now (out .entry)) ⌝ }
+    requires { ⌜ (n ≤ mostTexels) × (x ≤ mostTexels) × (v0 < 4096) × (v1 < 4096) ⌝ }
+    requires { ⌜ ((i : ℕ) → getD (now w) i 0 ≤ 64) ⌝ }
+    ensures { λ _. ⌜ now (out .exit) ≡
+        put (λ (i : ℕ). hdrChannel v0 v1 (getD (now (w .entry)) (x + i) 0)) 0 (eights n)
+        (now (out .entry)) ⌝ }
 {
     if v0 == v1 {
         return hdr_flat(out, n, v0);
@@ -153,8 +168,13 @@ fn hdr_bytes<'a>(
     partitions: &'a [u8; TEXELS],
     v: Numbers,
 )
-    requires { ⌜ (n ≤ mostTexels) × (parts ≤ 4) × (x ≤ mostTexels) × Wide (v .first) × Wide (v .second) ⌝ ∗ ⌜ ((i : ℕ) → getD (now w) i 0 ≤ 64) ⌝ ∗ ⌜ ((i : ℕ) → getD (now partitions) i 0 < parts) ⌝ }
-    ensures { λ _. ⌜ now (out .exit) ≡ put (hdrAt (v .first) (v .second) (now (w .entry)) (now (partitions .entry)) x) 0 (eights n) (now (out .entry)) ⌝ }
+    requires { ⌜ (n ≤ mostTexels) × (parts ≤ 4) × (x ≤ mostTexels) × Wide (v .first) ×
+        Wide (v .second) ⌝ }
+    requires { ⌜ ((i : ℕ) → getD (now w) i 0 ≤ 64) ⌝ }
+    requires { ⌜ ((i : ℕ) → getD (now partitions) i 0 < parts) ⌝ }
+    ensures { λ _. ⌜ now (out .exit) ≡
+        put (hdrAt (v .first) (v .second) (now (w .entry)) (now (partitions .entry)) x) 0 (eights n)
+        (now (out .entry)) ⌝ }
 {
     let a = v.first;
     let b = v.second;
@@ -246,7 +266,9 @@ fn join_all<'a>(
     a: &'a [u8; TEXELS],
 )
     requires { ⌜ n ≤ mostTexels ⌝ }
-    ensures { λ _. ⌜ now (out .exit) ≡ put (laneAt (wordAmong (now (r .entry)) (now (g .entry)) (now (b .entry)) (now (a .entry)))) 0 (2 * eights n) (now (out .entry)) ⌝ }
+    ensures { λ _. ⌜ now (out .exit) ≡
+        put (laneAt (wordAmong (now (r .entry)) (now (g .entry)) (now (b .entry)) (now (a .entry))))
+        0 (2 * eights n) (now (out .entry)) ⌝ }
 {
     let m = eights(n);
     let mut i = 0;
@@ -268,8 +290,11 @@ pub fn paint_hdr<'a>(
     w: &'a [u8; WEIGHTS],
     partitions: &'a [u8; TEXELS],
 )
-    requires { ⌜ PaintGiven n parts planes ends (now w) (now partitions) ⌝ ∗ ⌜ AllOf 1 parts ends ⌝ }
-    ensures { λ _. ⌜ now (out .exit) ≡ put (laneAt (texelWord ends (now (w .entry)) (now (partitions .entry)) planes channel)) 0 (2 * eights n) (now (out .entry)) ⌝ }
+    requires { ⌜ PaintGiven n parts planes ends (now w) (now partitions) ⌝ }
+    requires { ⌜ AllOf 1 parts ends ⌝ }
+    ensures { λ _. ⌜ now (out .exit) ≡
+        put (laneAt (texelWord ends (now (w .entry)) (now (partitions .entry)) planes channel)) 0
+        (2 * eights n) (now (out .entry)) ⌝ }
 {
     let k = starts_of(planes, channel);
     let v = channels_of(ends[0], ends[1], ends[2], ends[3]);

@@ -59,7 +59,8 @@ fn pair(x0: u16, x1: u16, y0: u16, y1: u16, v: u16, w: u16) -> u16
 // LDR texels of one partition and one plane.
 fn paint_one(out: &mut [u16; LANES], n: usize, w: &[u8; WEIGHTS], e: Endpoints)
     requires { ⌜ (n ≤ mostTexels) × Plain e ⌝ ∗ ⌜ ((i : ℕ) → getD (now w) i 0 ≤ 64) ⌝ }
-    ensures { λ _. ⌜ now (out .exit) ≡ put (laneAt (wordOne e (now (w .entry)))) 0 (2 * eights n) (now (out .entry)) ⌝ }
+    ensures { λ _. ⌜ now (out .exit) ≡
+        put (laneAt (wordOne e (now (w .entry)))) 0 (2 * eights n) (now (out .entry)) ⌝ }
 {
     let m = eights(n);
     let mut i = 0;
@@ -74,7 +75,8 @@ fn paint_one(out: &mut [u16; LANES], n: usize, w: &[u8; WEIGHTS], e: Endpoints)
 // The same where each channel has the weights of its plane.
 fn paint_planes(out: &mut [u16; LANES], n: usize, w: &[u8; WEIGHTS], k: Starts, e: Endpoints)
     requires { ⌜ (n ≤ mostTexels) × Ahead k × Plain e ⌝ ∗ ⌜ ((i : ℕ) → getD (now w) i 0 ≤ 64) ⌝ }
-    ensures { λ _. ⌜ now (out .exit) ≡ put (laneAt (wordAt e (now (w .entry)) k)) 0 (2 * eights n) (now (out .entry)) ⌝ }
+    ensures { λ _. ⌜ now (out .exit) ≡
+        put (laneAt (wordAt e (now (w .entry)) k)) 0 (2 * eights n) (now (out .entry)) ⌝ }
 {
     let m = eights(n);
     let mut i = 0;
@@ -115,7 +117,10 @@ fn paint_two(
     f: Endpoints,
 )
     requires { ⌜ (n ≤ mostTexels) × Plain e × Plain f ⌝ ∗ ⌜ ((i : ℕ) → getD (now w) i 0 ≤ 64) ⌝ }
-    ensures { λ _. ⌜ now (out .exit) ≡ put (laneAt (λ (i : ℕ). wordOne (eitherOf (getD (now (partitions .entry)) i 0) e f) (now (w .entry)) i)) 0 (2 * eights n) (now (out .entry)) ⌝ }
+    ensures { λ _. ⌜ now (out .exit) ≡
+        put (laneAt
+        (λ (i : ℕ). wordOne (eitherOf (getD (now (partitions .entry)) i 0) e f) (now (w .entry)) i))
+        0 (2 * eights n) (now (out .entry)) ⌝ }
 {
     let m = eights(n);
     let mut i = 0;
@@ -156,8 +161,14 @@ fn paint_four(
     partitions: &[u8; TEXELS],
     ends: [Endpoints; 4],
 )
-    requires { ⌜ (n ≤ mostTexels) × Ahead k ⌝ ∗ ⌜ ((i : ℕ) → getD (now w) i 0 ≤ 64) ⌝ ∗ ⌜ ((i : ℕ) → getD (now partitions) i 0 < 4) ⌝ ∗ ⌜ ((i : ℕ) → Plain (getD ends (getD (now partitions) i 0) nothing)) ⌝ }
-    ensures { λ _. ⌜ now (out .exit) ≡ put (laneAt (λ (i : ℕ). wordAt (getD ends (getD (now (partitions .entry)) i 0) nothing) (now (w .entry)) k i)) 0 (2 * eights n) (now (out .entry)) ⌝ }
+    requires { ⌜ (n ≤ mostTexels) × Ahead k ⌝ }
+    requires { ⌜ ((i : ℕ) → getD (now w) i 0 ≤ 64) ⌝ }
+    requires { ⌜ ((i : ℕ) → getD (now partitions) i 0 < 4) ⌝ }
+    requires { ⌜ ((i : ℕ) → Plain (getD ends (getD (now partitions) i 0) nothing)) ⌝ }
+    ensures { λ _. ⌜ now (out .exit) ≡
+        put (laneAt
+        (λ (i : ℕ). wordAt (getD ends (getD (now (partitions .entry)) i 0) nothing) (now (w .entry))
+        k i)) 0 (2 * eights n) (now (out .entry)) ⌝ }
 {
     let e0 = ends[0];
     let e1 = ends[1];
@@ -185,8 +196,11 @@ pub fn paint_ldr<'a>(
     w: &'a [u8; WEIGHTS],
     partitions: &'a [u8; TEXELS],
 )
-    requires { ⌜ PaintGiven n parts planes ends (now w) (now partitions) ⌝ ∗ ⌜ AllOf 0 parts ends ⌝ }
-    ensures { λ _. ⌜ now (out .exit) ≡ put (laneAt (texelWord ends (now (w .entry)) (now (partitions .entry)) planes channel)) 0 (2 * eights n) (now (out .entry)) ⌝ }
+    requires { ⌜ PaintGiven n parts planes ends (now w) (now partitions) ⌝ }
+    requires { ⌜ AllOf 0 parts ends ⌝ }
+    ensures { λ _. ⌜ now (out .exit) ≡
+        put (laneAt (texelWord ends (now (w .entry)) (now (partitions .entry)) planes channel)) 0
+        (2 * eights n) (now (out .entry)) ⌝ }
 {
     if parts == 1 {
         if planes == 1 {

@@ -90,7 +90,8 @@ fn put_four(out: &mut [u32], i: usize, k: Four)
 // makes HDR blocks slower.
 fn put_numbers(out: &mut [u32], n: usize, lanes: &[u16; LANES])
     requires { ⌜ (n ≤ mostTexels) × (4 * n ≤ length (now out)) ⌝ }
-    ensures { λ _. ⌜ now (out .exit) ≡ put (numbersFrom (now (lanes .entry))) 0 (4 * n) (now (out .entry)) ⌝ }
+    ensures { λ _. ⌜ now (out .exit) ≡
+        put (numbersFrom (now (lanes .entry))) 0 (4 * n) (now (out .entry)) ⌝ }
 {
     let mut i = 0;
     while i < n {
@@ -113,7 +114,8 @@ fn put_numbers(out: &mut [u32], n: usize, lanes: &[u16; LANES])
 // Puts the marks of n texels, from the lanes of a block.
 fn put_marks(floats: &mut [u8], n: usize, lanes: &[u16; LANES])
     requires { ⌜ (n ≤ mostTexels) × (n ≤ length (now floats)) ⌝ }
-    ensures { λ _. ⌜ now (floats .exit) ≡ put (marksFrom (now (lanes .entry))) 0 n (now (floats .entry)) ⌝ }
+    ensures { λ _. ⌜ now (floats .exit) ≡
+        put (marksFrom (now (lanes .entry))) 0 n (now (floats .entry)) ⌝ }
 {
     let mut i = 0;
     while i < n {
@@ -125,7 +127,10 @@ fn put_marks(floats: &mut [u8], n: usize, lanes: &[u16; LANES])
 // Puts the numbers and the marks of n texels, from the lanes of a block.
 pub fn put_texels(out: &mut [u32], floats: &mut [u8], n: usize, lanes: &[u16; LANES])
     requires { ⌜ (n ≤ mostTexels) × (4 * n ≤ length (now out)) × (n ≤ length (now floats)) ⌝ }
-    ensures { λ _. ⌜ (now (out .exit) ≡ put (numbersFrom (now (lanes .entry))) 0 (4 * n) (now (out .entry))) × (now (floats .exit) ≡ put (marksFrom (now (lanes .entry))) 0 n (now (floats .entry))) ⌝ }
+    ensures { λ _. ⌜ now (out .exit) ≡
+        put (numbersFrom (now (lanes .entry))) 0 (4 * n) (now (out .entry)) ⌝ }
+    ensures { λ _. ⌜ now (floats .exit) ≡
+        put (marksFrom (now (lanes .entry))) 0 n (now (floats .entry)) ⌝ }
 {
     put_numbers(out, n, lanes);
     put_marks(floats, n, lanes);
@@ -157,7 +162,8 @@ fn fill_marks(floats: &mut [u8], n: usize, m: u8)
 // Puts the numbers and the marks of n texels that all have the samples s.
 pub fn fill_texels(out: &mut [u32], floats: &mut [u8], n: usize, s: Samples)
     requires { ⌜ (n ≤ mostTexels) × (4 * n ≤ length (now out)) × (n ≤ length (now floats)) ⌝ }
-    ensures { λ _. ⌜ (now (out .exit) ≡ put (numbersIn s) 0 (4 * n) (now (out .entry))) × (now (floats .exit) ≡ put (λ (i : ℕ). marksOf s) 0 n (now (floats .entry))) ⌝ }
+    ensures { λ _. ⌜ now (out .exit) ≡ put (numbersIn s) 0 (4 * n) (now (out .entry)) ⌝ }
+    ensures { λ _. ⌜ now (floats .exit) ≡ put (λ (i : ℕ). marksOf s) 0 n (now (floats .entry)) ⌝ }
 {
     fill_numbers(out, n, four_of(s));
     fill_marks(floats, n, marks_of(s));

@@ -63,7 +63,9 @@ pub fn applicate_color<'a>(
     partitions: &'a [u8; TEXELS],
 )
     requires { ⌜ PaintGiven n parts planes ends (now w) (now partitions) ⌝ }
-    ensures { λ _. ⌜ now (out .exit) ≡ put (laneAt (texelWord ends (now (w .entry)) (now (partitions .entry)) planes channel)) 0 (2 * eights n) (now (out .entry)) ⌝ }
+    ensures { λ _. ⌜ now (out .exit) ≡
+        put (laneAt (texelWord ends (now (w .entry)) (now (partitions .entry)) planes channel)) 0
+        (2 * eights n) (now (out .entry)) ⌝ }
 {
     let kind = common_kind(parts, ends);
     if kind == 0 {

@@ -78,8 +78,14 @@ pub(crate) fn paint_any(
     partitions: &[u8; TEXELS],
     ends: [Endpoints; 4],
 )
-    requires { ⌜ (n ≤ mostTexels) × Ahead k ⌝ ∗ ⌜ ((i : ℕ) → InLimits (getD ends i nothing)) ⌝ ∗ ⌜ ((i : ℕ) → getD (now w) i 0 ≤ 64) ⌝ ∗ ⌜ ((i : ℕ) → getD (now partitions) i 0 < 4) ⌝ }
-    ensures { λ _. ⌜ now (out .exit) ≡ put (laneAt (λ (i : ℕ). wordAt (getD ends (getD (now (partitions .entry)) i 0) nothing) (now (w .entry)) k i)) 0 (2 * eights n) (now (out .entry)) ⌝ }
+    requires { ⌜ (n ≤ mostTexels) × Ahead k ⌝ }
+    requires { ⌜ ((i : ℕ) → InLimits (getD ends i nothing)) ⌝ }
+    requires { ⌜ ((i : ℕ) → getD (now w) i 0 ≤ 64) ⌝ }
+    requires { ⌜ ((i : ℕ) → getD (now partitions) i 0 < 4) ⌝ }
+    ensures { λ _. ⌜ now (out .exit) ≡
+        put (laneAt
+        (λ (i : ℕ). wordAt (getD ends (getD (now (partitions .entry)) i 0) nothing) (now (w .entry))
+        k i)) 0 (2 * eights n) (now (out .entry)) ⌝ }
 {
     let m = eights(n);
     let mut i = 0;

@@ -59,8 +59,11 @@ fn sample(hdr: u16, v0: u16, v1: u16, w: u8) -> u16
 
 // One channel of the texels of one partition, from lane `at` on; its weights start at x.
 fn put_one(out: &mut [u16; LANES], at: usize, n: usize, w: &[u8; WEIGHTS], x: usize, e: Pair)
-    requires { ⌜ (at ≤ 432) × (n ≤ mostTexels) × (x ≤ mostTexels) × (e .first < limitBy (e .hdr)) × (e .second < limitBy (e .hdr)) ⌝ ∗ ⌜ ((i : ℕ) → getD (now w) i 0 ≤ 64) ⌝ }
-    ensures { λ _. ⌜ now (out .exit) ≡ putAt (oneAt e (now (w .entry)) x) at (eights n) (now (out .entry)) ⌝ }
+    requires { ⌜ (at ≤ 432) × (n ≤ mostTexels) × (x ≤ mostTexels) × (e .first < limitBy (e .hdr)) ×
+        (e .second < limitBy (e .hdr)) ⌝ }
+    requires { ⌜ ((i : ℕ) → getD (now w) i 0 ≤ 64) ⌝ }
+    ensures { λ _. ⌜ now (out .exit) ≡
+        putAt (oneAt e (now (w .entry)) x) at (eights n) (now (out .entry)) ⌝ }
 {
     let hdr = e.hdr;
     let v0 = e.first;
@@ -83,8 +86,12 @@ fn put_any(
     partitions: &[u8; TEXELS],
     s: Pairs,
 )
-    requires { ⌜ (at ≤ 432) × (n ≤ mostTexels) × (x ≤ mostTexels) × PairsInLimits s ⌝ ∗ ⌜ ((i : ℕ) → getD (now w) i 0 ≤ 64) ⌝ ∗ ⌜ ((i : ℕ) → getD (now partitions) i 0 < 4) ⌝ }
-    ensures { λ _. ⌜ now (out .exit) ≡ putAt (anyAt s (now (w .entry)) (now (partitions .entry)) x) at (eights n) (now (out .entry)) ⌝ }
+    requires { ⌜ (at ≤ 432) × (n ≤ mostTexels) × (x ≤ mostTexels) × PairsInLimits s ⌝ }
+    requires { ⌜ ((i : ℕ) → getD (now w) i 0 ≤ 64) ⌝ }
+    requires { ⌜ ((i : ℕ) → getD (now partitions) i 0 < 4) ⌝ }
+    ensures { λ _. ⌜ now (out .exit) ≡
+        putAt (anyAt s (now (w .entry)) (now (partitions .entry)) x) at (eights n)
+        (now (out .entry)) ⌝ }
 {
     let e = s.a;
     let f = s.b;
@@ -127,8 +134,13 @@ fn put_channel<'a>(
     partitions: &'a [u8; TEXELS],
     s: Pairs,
 )
-    requires { ⌜ (at ≤ 432) × (n ≤ mostTexels) × (parts ≤ 4) × (x ≤ mostTexels) × PairsInLimits s ⌝ ∗ ⌜ ((i : ℕ) → getD (now w) i 0 ≤ 64) ⌝ ∗ ⌜ ((i : ℕ) → getD (now partitions) i 0 < parts) ⌝ }
-    ensures { λ _. ⌜ now (out .exit) ≡ putAt (anyAt s (now (w .entry)) (now (partitions .entry)) x) at (eights n) (now (out .entry)) ⌝ }
+    requires { ⌜ (at ≤ 432) × (n ≤ mostTexels) × (parts ≤ 4) × (x ≤ mostTexels) ×
+        PairsInLimits s ⌝ }
+    requires { ⌜ ((i : ℕ) → getD (now w) i 0 ≤ 64) ⌝ }
+    requires { ⌜ ((i : ℕ) → getD (now partitions) i 0 < parts) ⌝ }
+    ensures { λ _. ⌜ now (out .exit) ≡
+        putAt (anyAt s (now (w .entry)) (now (partitions .entry)) x) at (eights n)
+        (now (out .entry)) ⌝ }
 {
     if parts == 1 {
         return put_one(out, at, n, w, x, s.a);
@@ -204,11 +216,31 @@ pub fn put_samples<'a>(
     partitions: &'a [u8; TEXELS],
 )
     requires { ⌜ PaintGiven n parts planes ends (now w) (now partitions) ⌝ }
-    ensures { λ _. ⌜ now (out .exit) ≡ samplesIn n (texelLane ends (now (w .entry)) (now (partitions .entry)) planes channel) (now (out .entry)) ⌝ }
+    ensures { λ _. ⌜ now (out .exit) ≡
+        samplesIn n (texelLane ends (now (w .entry)) (now (partitions .entry)) planes channel)
+        (now (out .entry)) ⌝ }
 {
     let k = starts_of(planes, channel);
     put_channel(out, 0, n, parts, w, k.r, partitions, pairs_of(ends, 0));
     put_channel(out, TEXELS, n, parts, w, k.g, partitions, pairs_of(ends, 1));
-    put_channel(out, 2 * TEXELS, n, parts, w, k.b, partitions, pairs_of(ends, 2));
-    put_channel(out, 3 * TEXELS, n, parts, w, k.a, partitions, pairs_of(ends, 3));
+    put_channel(
+        out,
+        2 * TEXELS,
+        n,
+        parts,
+        w,
+        k.b,
+        partitions,
+        pairs_of(ends, 2),
+    );
+    put_channel(
+        out,
+        3 * TEXELS,
+        n,
+        parts,
+        w,
+        k.a,
+        partitions,
+        pairs_of(ends, 3),
+    );
 }

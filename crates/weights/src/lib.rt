@@ -27,7 +27,8 @@ fn is_wide(g: Grid) -> bool
 
 // A grid as wide as the footprint needs no columns, and one that is the footprint no infill.
 fn decode_wide(out: &mut [u8; WEIGHTS], g: Grid, n: usize, q: usize, seq: &[u8; 72])
-    requires { ⌜ (WeightsGiven g q (now seq) (now out)) × (n ≡ countOf g) × (g .planes ≡ 1) × (g .width ≡ g .footprint .width) ⌝ }
+    requires { ⌜ (WeightsGiven g q (now seq) (now out)) × (n ≡ countOf g) × (g .planes ≡ 1) ×
+        (g .width ≡ g .footprint .width) ⌝ }
     ensures { λ _. ⌜ now (out .exit) ≡ weightsOf g q (now (seq .entry)) ⌝ }
 {
     if g.height == g.footprint.height {
@@ -40,7 +41,9 @@ fn decode_wide(out: &mut [u8; WEIGHTS], g: Grid, n: usize, q: usize, seq: &[u8; 
 
 // Whether the grid is the footprint, in two planes.
 fn is_whole(g: Grid) -> bool
-    ensures { λ r. ⌜ r ≡ (eqb (g .planes) 2 && (eqb (g .width) (g .footprint .width) && eqb (g .height) (g .footprint .height))) ⌝ }
+    ensures { λ r. ⌜ r ≡
+        (eqb (g .planes) 2 &&
+        (eqb (g .width) (g .footprint .width) && eqb (g .height) (g .footprint .height))) ⌝ }
 {
     if g.planes == 2 {
         if g.width == g.footprint.width {
@@ -54,7 +57,8 @@ fn is_whole(g: Grid) -> bool
 // Tells the weights of two planes apart, which stand in turns: those of n texels, and on to the next multiple of 8.
 fn part_planes(out: &mut [u8; WEIGHTS], n: usize, wv: &[u8; WEIGHTS])
     requires { ⌜ (n ≤ mostTexels) × (now out ≡ replicate mostWeights 0) ⌝ }
-    ensures { λ _. ⌜ now (out .exit) ≡ listOf (partedTo (now (wv .entry)) (eights n)) 0 mostWeights ⌝ }
+    ensures { λ _. ⌜ now (out .exit) ≡
+        listOf (partedTo (now (wv .entry)) (eights n)) 0 mostWeights ⌝ }
 {
     let m = lanes::eights(n);
     let mut i = 0;
@@ -67,7 +71,8 @@ fn part_planes(out: &mut [u8; WEIGHTS], n: usize, wv: &[u8; WEIGHTS])
 
 // A grid of two planes that is the footprint needs no infill.
 fn decode_planes(out: &mut [u8; WEIGHTS], g: Grid, n: usize, q: usize, seq: &[u8; 72])
-    requires { ⌜ (WeightsGiven g q (now seq) (now out)) × (n ≡ countOf g) × (g .planes ≡ 2) × (g .width ≡ g .footprint .width) × (g .height ≡ g .footprint .height) ⌝ }
+    requires { ⌜ (WeightsGiven g q (now seq) (now out)) × (n ≡ countOf g) × (g .planes ≡ 2) ×
+        (g .width ≡ g .footprint .width) × (g .height ≡ g .footprint .height) ⌝ }
     ensures { λ _. ⌜ now (out .exit) ≡ weightsOf g q (now (seq .entry)) ⌝ }
 {
     let mut wv = [0u8; WEIGHTS];

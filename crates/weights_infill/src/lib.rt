@@ -28,8 +28,12 @@ fn usize_of(x: u16) -> usize
 // The place left of each column in the grid, and the sixteenths beyond it.
 fn columns(at: &mut [u16; 16], part: &mut [u16; 16], g: Grid)
     requires { ⌜ Fits g ⌝ }
-    ensures { λ _. ⌜ now (at .exit) ≡ put (λ (s : ℕ). placeOf (g .footprint .width) (g .width) s / 16 * g .planes) 0 (eights (g .footprint .width)) (now (at .entry)) ⌝ }
-    ensures { λ _. ⌜ now (part .exit) ≡ put (λ (s : ℕ). placeOf (g .footprint .width) (g .width) s % 16) 0 (eights (g .footprint .width)) (now (part .entry)) ⌝ }
+    ensures { λ _. ⌜ now (at .exit) ≡
+        put (λ (s : ℕ). placeOf (g .footprint .width) (g .width) s / 16 * g .planes) 0
+        (eights (g .footprint .width)) (now (at .entry)) ⌝ }
+    ensures { λ _. ⌜ now (part .exit) ≡
+        put (λ (s : ℕ). placeOf (g .footprint .width) (g .width) s % 16) 0
+        (eights (g .footprint .width)) (now (part .entry)) ⌝ }
 {
     let d = weights_grid::step_of(g.footprint.width);
     let width = g.width as u16;
@@ -47,7 +51,8 @@ fn columns(at: &mut [u16; 16], part: &mut [u16; 16], g: Grid)
 // Each weight of a grid and the next of its plane, as two bytes of a number.
 fn neighbours(out: &mut [u16; 72], n: usize, planes: usize, wv: &[u8; WEIGHTS])
     requires { ⌜ (n ≤ 64) × (planes ≤ 2) ⌝ }
-    ensures { λ _. ⌜ now (out .exit) ≡ put (pairOf planes (now (wv .entry))) 0 (eights n) (now (out .entry)) ⌝ }
+    ensures { λ _. ⌜ now (out .exit) ≡
+        put (pairOf planes (now (wv .entry))) 0 (eights n) (now (out .entry)) ⌝ }
 {
     let m = lanes::eights(n);
     let mut i = 0;
@@ -66,8 +71,11 @@ fn spread_row(
     next: &[u16; 72],
     k: usize,
 )
-    requires { ⌜ (o + width ≤ 208) × (width ≤ 16) × ((s : ℕ) → s < width → k + getD (now at) s 0 < 72) ⌝ }
-    ensures { λ _. ⌜ now (out .exit) ≡ putAt (λ (s : ℕ). getD (now (next .entry)) (k + getD (now (at .entry)) s 0) 0) o width (now (out .entry)) ⌝ }
+    requires { ⌜ (o + width ≤ 208) × (width ≤ 16) ×
+        ((s : ℕ) → s < width → k + getD (now at) s 0 < 72) ⌝ }
+    ensures { λ _. ⌜ now (out .exit) ≡
+        putAt (λ (s : ℕ). getD (now (next .entry)) (k + getD (now (at .entry)) s 0) 0) o width
+        (now (out .entry)) ⌝ }
 {
     let mut s = 0;
     while s < width {
@@ -79,7 +87,8 @@ fn spread_row(
 // Each grid row at the footprint's columns.
 fn spread(out: &mut [u16; 208], g: Grid, at: &[u16; 16], next: &[u16; 72], plane: usize)
     requires { ⌜ (Fits g) × (plane < g .planes) × (now out ≡ replicate 208 0) ⌝ }
-    requires { ⌜ ((s : ℕ) → s < g .footprint .width → getD (now at) s 0 ≡ placeOf (g .footprint .width) (g .width) s / 16 * g .planes) ⌝ }
+    requires { ⌜ ((s : ℕ) → s < g .footprint .width → getD (now at) s 0 ≡
+        placeOf (g .footprint .width) (g .width) s / 16 * g .planes) ⌝ }
     requires { ⌜ ((k : ℕ) → countOf g ≤ k → getD (now next) k 0 ≡ 0) ⌝ }
     ensures { λ _. ⌜ now (out .exit) ≡ listOf (spreadAt g (now (next .entry)) plane) 0 208 ⌝ }
 {
@@ -114,8 +123,10 @@ fn fill_row(
     part: &[u16; 16],
     h: u16,
 )
-    requires { ⌜ (o + m ≤ mostWeights) × (m ≤ 16) × (j + 32 ≤ 208) × (h < 16) × ((s : ℕ) → getD (now part) s 0 < 16) ⌝ }
-    ensures { λ _. ⌜ now (out .exit) ≡ putAt (rowAt (now (pairs .entry)) (now (part .entry)) j h) o m (now (out .entry)) ⌝ }
+    requires { ⌜ (o + m ≤ mostWeights) × (m ≤ 16) × (j + 32 ≤ 208) × (h < 16) ×
+        ((s : ℕ) → getD (now part) s 0 < 16) ⌝ }
+    ensures { λ _. ⌜ now (out .exit) ≡
+        putAt (rowAt (now (pairs .entry)) (now (part .entry)) j h) o m (now (out .entry)) ⌝ }
 {
     let mut s = 0;
     while s < m {
@@ -129,7 +140,8 @@ fn fill_rows(out: &mut [u8; WEIGHTS], g: Grid, pairs: &[u16; 208], part: &[u16; 
     requires { ⌜ (Fits g) × (now out ≡ replicate mostWeights 0) ⌝ }
     requires { ⌜ ((s : ℕ) → getD (now part) s 0 < 16) ⌝ }
     requires { ⌜ ((i : ℕ) → g .footprint .width ≤ i % 16 → getD (now pairs) i 0 ≡ 0) ⌝ }
-    ensures { λ _. ⌜ now (out .exit) ≡ texels g (rowsOf g (now (pairs .entry)) (now (part .entry))) ⌝ }
+    ensures { λ _. ⌜ now (out .exit) ≡
+        texels g (rowsOf g (now (pairs .entry)) (now (part .entry))) ⌝ }
 {
     let d = weights_grid::step_of(g.footprint.height);
     let height = g.height as u16;
@@ -146,7 +158,8 @@ fn fill_rows(out: &mut [u8; WEIGHTS], g: Grid, pairs: &[u16; 208], part: &[u16; 
 
 // One plane's weights of all texels.
 fn fill_plane(out: &mut [u8; WEIGHTS], g: Grid, next: &[u16; 72], plane: usize)
-    requires { ⌜ (Fits g) × (plane < g .planes) × (now out ≡ replicate mostWeights 0) × (Pairs g (now next)) ⌝ }
+    requires { ⌜ (Fits g) × (plane < g .planes) × (now out ≡ replicate mostWeights 0) ×
+        (Pairs g (now next)) ⌝ }
     ensures { λ _. ⌜ now (out .exit) ≡ planeOf g (lowOf (now (next .entry))) plane ⌝ }
 {
     let mut at = [0u16; 16];
@@ -160,7 +173,8 @@ fn fill_plane(out: &mut [u8; WEIGHTS], g: Grid, next: &[u16; 72], plane: usize)
 // The second plane's weights stand from TEXELS on.
 fn put_second(out: &mut [u8; WEIGHTS], n: usize, plane: &[u8; WEIGHTS])
     requires { ⌜ n ≤ mostTexels ⌝ }
-    ensures { λ _. ⌜ now (out .exit) ≡ putAt (λ (i : ℕ). getD (now (plane .entry)) i 0) mostTexels n (now (out .entry)) ⌝ }
+    ensures { λ _. ⌜ now (out .exit) ≡
+        putAt (λ (i : ℕ). getD (now (plane .entry)) i 0) mostTexels n (now (out .entry)) ⌝ }
 {
     let mut i = 0;
     while i < n {

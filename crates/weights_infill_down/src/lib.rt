@@ -54,8 +54,11 @@ fn fill_row_whole(
     keep: &[u16; 16],
     h: u16,
 )
-    requires { ⌜ (o + m ≤ mostWeights) × (m ≤ 16) × (k + width + m ≤ mostWeights) × (h < 16) × ((s : ℕ) → getD (now keep) s 0 ≤ 1) ⌝ }
-    ensures { λ _. ⌜ now (out .exit) ≡ putAt (λ (s : ℕ). wholeAt (now (wv .entry)) width k h s * getD (now (keep .entry)) s 0) o m (now (out .entry)) ⌝ }
+    requires { ⌜ (o + m ≤ mostWeights) × (m ≤ 16) × (k + width + m ≤ mostWeights) × (h < 16) ×
+        ((s : ℕ) → getD (now keep) s 0 ≤ 1) ⌝ }
+    ensures { λ _. ⌜ now (out .exit) ≡
+        putAt (λ (s : ℕ). wholeAt (now (wv .entry)) width k h s * getD (now (keep .entry)) s 0) o m
+        (now (out .entry)) ⌝ }
 {
     let mut s = 0;
     while s < m {
@@ -66,7 +69,8 @@ fn fill_row_whole(
 
 // The one plane's weights of all texels, where the grid is as wide as the footprint.
 pub fn fill_down(out: &mut [u8; WEIGHTS], g: Grid, wv: &[u8; WEIGHTS])
-    requires { ⌜ (Fits g) × (g .planes ≡ 1) × (g .width ≡ g .footprint .width) × (now out ≡ replicate mostWeights 0) ⌝ }
+    requires { ⌜ (Fits g) × (g .planes ≡ 1) × (g .width ≡ g .footprint .width) ×
+        (now out ≡ replicate mostWeights 0) ⌝ }
     ensures { λ _. ⌜ now (out .exit) ≡ infillOf g (λ (k : ℕ). getD (now (wv .entry)) k 0) ⌝ }
 {
     let mut keep = [0u16; 16];

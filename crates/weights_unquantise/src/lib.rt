@@ -33,7 +33,8 @@ fn turn(odd: u16, t: u16) -> u16
 // Values of plain bits: repeating the bits is a product, and what is over beside it.
 fn plain_all(out: &mut [u8; WEIGHTS], n: usize, by: u16, over: u16, seq: &[u8; 72])
     requires { ⌜ (n ≤ 64) × (by ≤ 63) × (over ≤ 8) ⌝ }
-    ensures { λ _. ⌜ now (out .exit) ≡ each (plainOf by over) (now (seq .entry)) n (now (out .entry)) ⌝ }
+    ensures { λ _. ⌜ now (out .exit) ≡
+        each (plainOf by over) (now (seq .entry)) n (now (out .entry)) ⌝ }
 {
     let m = lanes::eights(n);
     let mut i = 0;
@@ -47,7 +48,8 @@ fn plain_all(out: &mut [u8; WEIGHTS], n: usize, by: u16, over: u16, seq: &[u8; 7
 // Trits or quints alone.
 fn digit_all(out: &mut [u8; WEIGHTS], n: usize, by: u8, seq: &[u8; 72])
     requires { ⌜ (n ≤ 64) × ((k : ℕ) → getD (now seq) k 0 * by < 256) ⌝ }
-    ensures { λ _. ⌜ now (out .exit) ≡ each (λ (v : ℕ). v * by) (now (seq .entry)) n (now (out .entry)) ⌝ }
+    ensures { λ _. ⌜ now (out .exit) ≡
+        each (λ (v : ℕ). v * by) (now (seq .entry)) n (now (out .entry)) ⌝ }
 {
     let m = lanes::eights(n);
     let mut i = 0;
@@ -68,7 +70,8 @@ fn sum(v: u16, bits: u16, c: u16, by: u16) -> u16
 // Trits or quints with bits. The product with by puts the bits above the lowest where the standard's pattern has them.
 fn mixed_all(out: &mut [u8; WEIGHTS], n: usize, bits: u16, c: u16, by: u16, seq: &[u8; 72])
     requires { ⌜ (n ≤ 64) × (bits ≤ 3) × ((k : ℕ) → sumOf bits c by (getD (now seq) k 0) ≤ 127) ⌝ }
-    ensures { λ _. ⌜ now (out .exit) ≡ each (mixedOf bits c by) (now (seq .entry)) n (now (out .entry)) ⌝ }
+    ensures { λ _. ⌜ now (out .exit) ≡
+        each (mixedOf bits c by) (now (seq .entry)) n (now (out .entry)) ⌝ }
 {
     let m = lanes::eights(n);
     let mut i = 0;
