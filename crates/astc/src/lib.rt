@@ -1,4 +1,5 @@
-// The C surface: each function takes unchecked input and answers by number. A slice is a pointer and a length.
+// The C surface: each function takes unchecked input and answers by number. A slice is a pointer
+// and a length.
 ghost use mathlib.Core.Path.{_≡_};
 ghost use lib.ListN.{length};
 ghost use Rattle.footprint.specs.Footprints.{footprint};
@@ -12,7 +13,8 @@ use footprint::Footprint;
 use image::Cursor;
 use image_shape::Shape;
 
-// uint32_t astc_decode_block(const uint8_t *block, size_t block_len, size_t bw, size_t bh, uint32_t *out, size_t out_len)
+// uint32_t astc_decode_block(const uint8_t *block, size_t block_len, size_t bw, size_t bh, uint32_t
+// *out, size_t out_len)
 #[no_mangle]
 pub extern "C" fn astc_decode_block(block: &[u8], bw: usize, bh: usize, out: &mut [u32]) -> u32
     ensures { λ a. ⌜ a ≡
@@ -27,7 +29,8 @@ pub extern "C" fn astc_decode_block(block: &[u8], bw: usize, bh: usize, out: &mu
     block::decode_astc_block(block, f, out) as u32
 }
 
-// uint32_t astc_block_map(const uint8_t *block, size_t block_len, size_t bw, size_t bh, uint32_t *map, size_t map_len)
+// uint32_t astc_block_map(const uint8_t *block, size_t block_len, size_t bw, size_t bh, uint32_t
+// *map, size_t map_len)
 #[no_mangle]
 pub extern "C" fn astc_block_map(block: &[u8], bw: usize, bh: usize, map: &mut [u32]) -> u32
     ensures { λ a. ⌜ a ≡
@@ -39,8 +42,8 @@ pub extern "C" fn astc_block_map(block: &[u8], bw: usize, bh: usize, map: &mut [
     astc_numbers::put_map(block, bw, bh, map) as u32
 }
 
-// uint32_t astc_block_channels(uint32_t options, const uint8_t *block, size_t block_len, size_t bw, size_t bh, uint32_t *channels,
-// size_t channels_len, uint8_t *floats, size_t floats_len)
+// uint32_t astc_block_channels(uint32_t options, const uint8_t *block, size_t block_len, size_t bw,
+// size_t bh, uint32_t *channels, size_t channels_len, uint8_t *floats, size_t floats_len)
 #[no_mangle]
 pub extern "C" fn astc_block_channels(
     options: u32,
@@ -71,8 +74,8 @@ pub extern "C" fn astc_block_channels(
     block_channels::decode_channels(block, f, channels, floats) as u32
 }
 
-// uint32_t astc_decode_image(const uint8_t *data, size_t data_len, size_t width, size_t height, size_t bw, size_t bh, uint32_t *out,
-// size_t out_len)
+// uint32_t astc_decode_image(const uint8_t *data, size_t data_len, size_t width, size_t height,
+// size_t bw, size_t bh, uint32_t *out, size_t out_len)
 #[no_mangle]
 pub extern "C" fn astc_decode_image(
     data: &[u8],
@@ -100,8 +103,9 @@ pub extern "C" fn astc_decode_image(
     image::decode_astc(data, m, out) as u32
 }
 
-// uint32_t astc_image_step(const uint8_t *data, size_t data_len, size_t width, size_t height, size_t bw, size_t bh, size_t next,
-// size_t blocks, uint32_t *out, size_t out_len, uint64_t *moved, size_t moved_len)
+// uint32_t astc_image_step(const uint8_t *data, size_t data_len, size_t width, size_t height,
+// size_t bw, size_t bh, size_t next, size_t blocks, uint32_t *out, size_t out_len, uint64_t *moved,
+// size_t moved_len)
 #[no_mangle]
 pub extern "C" fn astc_image_step(
     data: &[u8],

@@ -1,4 +1,5 @@
-// What the C surface asks of a call before what it calls does: that its options are listed, and that where a step led has places.
+// What the C surface checks of a call before the decoder does: its options, and the places for
+// where a step led.
 ghost use mathlib.Core.Path.{_≡_};
 ghost use Rattle.astc_checks.specs.Checks.{optionsRefusal, placesRefusal};
 use image_shape::Shape;
@@ -13,7 +14,8 @@ pub fn options_refusal(options: u32) -> usize
     0
 }
 
-// 0 where a step has the three places that it tells C of, or else why it is refused, the image's own refusals first.
+// 0 where a step has the three places in which C reads where it led; else why the step is refused,
+// the image's own refusals first.
 pub fn places_refusal(m: Shape, len: usize, room: usize, places: usize) -> usize
     ensures { λ r. ⌜ r ≡ placesRefusal m len room places ⌝ }
 {

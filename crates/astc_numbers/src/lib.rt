@@ -39,7 +39,8 @@ fn put_numbers(out: &mut [u32], n: &[u32; 9])
     }
 }
 
-// Puts the map of a block at the footprint bw by bh into the first nine places of `map`, and gives the answer.
+// Puts the map of a block at the footprint bw by bh into the first nine places of `map`, and gives
+// the answer.
 pub fn put_map(block: &[u8], bw: usize, bh: usize, map: &mut [u32]) -> usize
     ensures { λ a. ⌜ a ≡
         mapAnswerIn (blockMap (now (block .entry)) (footprint bw bh))
@@ -63,7 +64,8 @@ pub fn put_map(block: &[u8], bw: usize, bh: usize, map: &mut [u32]) -> usize
     m.answer
 }
 
-// Puts a step's next block, the blocks painted and those of them that break a rule into the first three places of `moved`.
+// Puts a step's next block, the blocks painted and those of them that break a rule into the first
+// three places of `moved`.
 pub fn put_led(moved: &mut [u64], next: usize, painted: usize, bad: usize)
     requires { ⌜ 3 ≤ length (now moved) ⌝ }
     ensures { λ _. ⌜ now (moved .exit) ≡

@@ -10,7 +10,8 @@ mod tables;
 
 use tables::BIT_REVERSE_TABLE;
 
-// Entry x is the byte x with its bits in the other order. Made once, and lent.
+// The table whose entry x is the byte x with its bits in the other order. It is made once a call
+// and lent.
 pub fn reversal() -> [u8; 256]
     ensures { λ r. ⌜ r ≡ reversals ⌝ }
 {
@@ -23,7 +24,7 @@ fn u64_of(x: u8) -> u64
     x as u64
 }
 
-// The byte of x that starts at a bit, with its bits in the other order.
+// The byte of x that starts at bit `at`, with its bits in the other order.
 fn reverse8(reversal: &[u8; 256], x: u64, at: usize) -> u64
     requires { ⌜ (now reversal ≡ reversals) × (at < 64) ⌝ }
     ensures { λ r. ⌜ (r ≡ reversed 8 (x / 2 ^ at)) × (r < 256) ⌝ }

@@ -16,7 +16,7 @@ pub fn color(r: u8, g: u8, b: u8, a: u8) -> u32
     u32_of(b) + 0x100 * u32_of(g) + 0x1_0000 * u32_of(r) + 0x100_0000 * u32_of(a)
 }
 
-// An endpoint in 16 bits: 257 times a byte.
+// An endpoint expanded to 16 bits, which is 257 times a byte.
 fn expanded(v: u32) -> u32
     requires { ⌜ v ≤ 286 ⌝ }
     ensures { λ r. ⌜ (r ≡ expand v) × (r < 131072) ⌝ }
@@ -24,7 +24,7 @@ fn expanded(v: u32) -> u32
     v << 8 | v
 }
 
-// The LDR channel at a weight, for any endpoints that the original's rule takes.
+// The LDR channel of two endpoints at a weight, for endpoints of up to 286.
 pub fn select_color(v0: u32, v1: u32, weight: u32) -> u8
     requires { ⌜ (v0 ≤ 286) × ((v1 ≤ 286) × (weight ≤ 64)) ⌝ }
     ensures { λ r. ⌜ r ≡ ldrChannel v0 v1 weight ⌝ }
@@ -35,7 +35,8 @@ pub fn select_color(v0: u32, v1: u32, weight: u32) -> u8
     ((255 * c + 32768) / 65536 % 256) as u8
 }
 
-// The same for endpoints in 0..255, in 16 bits, so that eight texels are blended at once.
+// The LDR channel of two bytes at a weight. It needs 16 bits only, so that a loop blends eight
+// texels at once.
 pub fn select_color_byte(v0: u16, v1: u16, weight: u16) -> u16
     requires { ⌜ (v0 ≤ 255) × ((v1 ≤ 255) × (weight ≤ 64)) ⌝ }
     ensures { λ r. ⌜ (r ≡ ldrChannel v0 v1 weight) × (r ≤ 255) ⌝ }
@@ -50,7 +51,8 @@ fn above(m: u32, k: u32) -> u32
     if m < k { 0 } else { m - k }
 }
 
-// The half of an HDR channel's 16 bits: the low 11 rise by 3, from 512 on by 4, from 1536 on by 5, in eighths.
+// The half of the 16 bits of a blended HDR channel. The low 11 bits rise by 3 eighths, from 512 on
+// by 4 and from 1536 on by 5.
 fn hdr_half(c: u32) -> u16
     requires { ⌜ c < 65536 ⌝ }
     ensures { λ r. ⌜ r ≡ halfOf c ⌝ }

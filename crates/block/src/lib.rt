@@ -15,7 +15,8 @@ use lanes::LANES;
 // What a block that breaks a rule is painted with.
 pub const MAGENTA: u32 = 0xffff_00ff;
 
-// Paints the words of a block at a listed footprint and gives the answer. The tables are made for a block that is to be decoded alone.
+// Paints the words of a block at a listed footprint and gives the answer. The tables are made only
+// for a block that is not void.
 fn decode_words(s: &[u8], f: Footprint, out: &mut [u32]) -> usize
     requires { ⌜ (length (now s) ≡ 16) × ((listed f ≡ true) × (texelsOf f ≤ length (now out))) ⌝ }
     ensures { λ a. ⌜ a ≡ blockAnswer (blockBits (now (s .entry))) f ⌝ }
@@ -48,7 +49,8 @@ fn decode_words(s: &[u8], f: Footprint, out: &mut [u32]) -> usize
     answer
 }
 
-// Paints the words of a block of sixteen bytes and gives the answer; a refusal leaves the output as it was.
+// Paints the words of a block of sixteen bytes and gives the answer; a refusal leaves the output as
+// it was.
 pub fn decode_astc_block(s: &[u8], f: Footprint, out: &mut [u32]) -> usize
     ensures { λ a. ⌜ a ≡ answerOf (now (s .entry)) f (length (now (out .entry))) ⌝ }
     ensures { λ a. ⌜ now (out .exit) ≡ paintedOf (now (s .entry)) f (now (out .entry)) ⌝ }

@@ -1,4 +1,5 @@
-// The channels of a block's texels, bytes and floats: those of all texels as C reads them, and those of one texel by value.
+// The channels of a block's texels, bytes and floats: those of all texels as C reads them, and
+// those of one texel by value.
 ghost use mathlib.Core.Path.{_≡_};
 ghost use mathlib.Core.Bool.{true, false};
 ghost use Prim.Native.Nat.{_*_, _≤_, _<_};
@@ -38,7 +39,8 @@ fn magenta() -> Samples
     }
 }
 
-// Puts the samples of a legal block that is not void, at a listed footprint, into lanes, and gives the block's answer.
+// Puts the samples of a legal block that is not void, at a listed footprint, into lanes, and gives
+// the block's answer.
 fn decode_samples(b: Block, f: Footprint, lanes: &mut [u16; LANES]) -> usize
     requires { ⌜ (isVoid (valueOf b) ≡ false) × (listed f ≡ true) ⌝ }
     ensures { λ a. ⌜ a ≡ blockAnswer (valueOf b) f ⌝ }
@@ -119,8 +121,9 @@ fn room_of(places: usize, marks: usize) -> usize
     marks
 }
 
-// Puts four numbers a texel into `out`, red, green, blue and alpha, bytes or the bits of floats, and into `floats` which of them are floats;
-// gives the answer. A refusal leaves both outputs as they were.
+// Puts four numbers a texel into `out`, red, green, blue and alpha, bytes or the bits of floats,
+// and into `floats` which of them are floats; gives the answer. A refusal leaves both outputs as
+// they were.
 pub fn decode_channels(s: &[u8], f: Footprint, out: &mut [u32], floats: &mut [u8]) -> usize
     ensures { λ a. ⌜ (a ≡
         answerOf (now (s .entry)) f
@@ -137,7 +140,7 @@ pub fn decode_channels(s: &[u8], f: Footprint, out: &mut [u32], floats: &mut [u8
     put_block(s, f, out, floats)
 }
 
-// A refusal by its number.
+// What a refused call for one texel answers: its number, and bytes of 0.
 fn refused(answer: usize) -> Answered
     ensures { λ r. ⌜ r ≡ refusedBy answer ⌝ }
 {

@@ -1,4 +1,4 @@
-// The block that 16 bytes are.
+// The block whose bits sixteen bytes hold, the first byte the lowest.
 ghost use mathlib.Core.Path.{_≡_};
 ghost use Prim.Native.Nat.{_+_, _*_, _<_};
 ghost use lib.ListN.{length};
@@ -12,7 +12,7 @@ fn u64_of(x: u8) -> u64
     x as u64
 }
 
-// Eight bytes as a word, the first the lowest.
+// Eight bytes as a word, the first of them the lowest.
 fn word(a: u8, b: u8, c: u8, d: u8, e: u8, f: u8, g: u8, h: u8) -> u64
     ensures { λ r. ⌜ r ≡
         a + 0x100 * b + 0x1_0000 * c + 0x100_0000 * d + 0x1_0000_0000 * e + 0x100_0000_0000 * f +
@@ -28,7 +28,7 @@ fn word(a: u8, b: u8, c: u8, d: u8, e: u8, f: u8, g: u8, h: u8) -> u64
         + 0x100_0000_0000_0000 * u64_of(h)
 }
 
-// The block that 16 bytes are.
+// The block whose bits sixteen bytes hold, the first byte the lowest.
 pub fn load(s: &[u8]) -> Block
     requires { ⌜ length (now s) ≡ 16 ⌝ }
     ensures { λ r. ⌜ valueOf r ≡ bytes 16 (now (s .entry)) ⌝ }

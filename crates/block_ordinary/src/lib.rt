@@ -102,8 +102,8 @@ pub struct BlockData {
     pub partition: [u8; TEXELS],
 }
 
-// Puts the lanes of a legal block, its words or its samples. Its record is made and filled here, where it is used: handed on by value it would be
-// copied.
+// Puts the lanes of a legal block, its words or its samples. Its record is made and filled here,
+// where it is used: handed on by value it would be copied.
 fn put_ordinary(
     reversal: &[u8; 256],
     trits: &[u16; 256],
@@ -154,7 +154,8 @@ fn put_ordinary(
     }
 }
 
-// Reads the parameters of a block at a listed footprint, puts its lanes if it is legal, and gives the answer.
+// Reads the parameters of a block at a listed footprint, puts its lanes if it is legal, and gives
+// the answer.
 fn put_if_legal<'a>(
     reversal: &'a [u8; 256],
     trits: &'a [u16; 256],
@@ -179,8 +180,9 @@ fn put_if_legal<'a>(
     a
 }
 
-// Puts the lanes of a legal block at a listed footprint, with lent tables; a block that breaks a rule puts none. It gives the answer.
-// Block and footprint are made anew of their numbers, which are then handed over in registers.
+// Puts the lanes of a legal block at a listed footprint, with lent tables; a block that breaks a
+// rule puts none. It gives the answer. Block and footprint are made anew of their numbers, which
+// are then handed over in registers.
 pub fn decode_ordinary<'a>(
     reversal: &'a [u8; 256],
     trits: &'a [u16; 256],

@@ -1,4 +1,5 @@
-// A void block: whether a block is one, by its answer, and its one colour, which stands in its upper half, as a word and as samples.
+// A void block: whether a block is one, by its answer, and its one colour, which stands in its
+// upper half, as a word and as samples.
 ghost use mathlib.Core.Path.{_≡_};
 ghost use Prim.Native.Nat.{_≤_};
 ghost use Rattle.bits.specs.Bits.{bitsAt};
@@ -9,7 +10,7 @@ use bits::Block;
 use channels::Sample;
 use channels::Samples;
 
-// The answer of a void block. Of any other block it is 0: that is to be decoded.
+// 1 for a void block, and 0 for any other, which is then to be decoded.
 pub fn void_answer(b: Block) -> usize
     ensures { λ r. ⌜ r ≡ voidAnswer (valueOf b) ⌝ }
 {
@@ -33,7 +34,8 @@ fn void_byte(b: Block, at: usize) -> u8
     bits::getbits(b, at, 8) as u8
 }
 
-// The one colour of a void block. The block is made anew of its two words, which are then handed over in registers.
+// The one colour of a void block. The block is made anew of its two words, which are then handed
+// over in registers.
 pub fn void_color(whole: Block) -> u32
     ensures { λ r. ⌜ r ≡ voidWord (valueOf whole) ⌝ }
 {

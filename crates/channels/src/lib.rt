@@ -1,5 +1,5 @@
-// A channel of a texel as it is answered, a byte or a float. It is decoded as a byte or as a half; here are the value that is answered and the
-// byte that it is reduced to.
+// A channel of a texel as it is answered, a byte or a float. It is decoded as a byte or as a half;
+// here are the value that is answered and the byte that it is reduced to.
 ghost use mathlib.Core.Path.{_≡_};
 ghost use mathlib.Core.Bool.{not};
 ghost use lib.Dec.{T};
@@ -34,7 +34,8 @@ pub struct Texel {
     pub a: Channel,
 }
 
-// By whose rule a float is reduced to a byte: that of an ordinary block's HDR channels, or that of a void block's colour.
+// By whose rule a float is reduced to a byte: that of an ordinary block's HDR channels, or that of
+// a void block's colour.
 pub enum Rule {
     Ordinary,
     Void,
@@ -49,7 +50,7 @@ fn channel_of(s: Sample) -> Channel
     }
 }
 
-// A texel's channels, by value.
+// The four channels of a texel as they are answered, from its samples.
 pub fn texel_of(s: Samples) -> Texel
     ensures { λ r. ⌜ r ≡ texelOf s ⌝ }
 {
@@ -65,8 +66,9 @@ pub fn texel_of(s: Samples) -> Texel
     }
 }
 
-// The byte of the float with the pattern b, which is no NaN. The float is less than 1 below the pattern 0x3f80_0000, and its byte is 0 below
-// 0x3b80_0000; between them its 24 digits times 255 are shifted down.
+// The byte of the float with the pattern b, which is no NaN. The float is less than 1 below the
+// pattern 0x3f80_0000, and its byte is 0 below 0x3b80_0000; between them its 24 digits times 255
+// are shifted down.
 fn pattern_byte(b: u32) -> u8
     requires { ⌜ T (not (nanBits binary32 b)) ⌝ }
     ensures { λ r. ⌜ r ≡ byteOf 0 (ofBits binary32 b) ⌝ }

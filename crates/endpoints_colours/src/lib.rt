@@ -1,4 +1,5 @@
-// The two endpoints of a partition, and the colours, values and alphas that they are made of: no code.
+// The two endpoints of a partition, and the colours, values and alphas that they are made of: no
+// code.
 
 pub enum Mark {
     Ldr,

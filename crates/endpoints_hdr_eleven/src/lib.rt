@@ -6,7 +6,8 @@ ghost use Rattle.endpoints_rules.specs.Hdr11.{up};
 ghost use Rattle.endpoints_hdr_eleven.specs.Hdr11Laws.{bases, differences, commons, kept, offsets, elevenOf, ElevenBounds};
 use endpoints_colours::Values;
 
-// The numbers of mode 11: the base, two differences, what both endpoints differ by, and two offsets.
+// The numbers of mode 11: the base, two differences, what both endpoints differ by, and two
+// offsets.
 pub struct Eleven {
     pub a: u16,
     pub b0: u16,
@@ -66,7 +67,8 @@ fn common(mode: u8, v: Values) -> u16
     }
 }
 
-// An offset whose top bit is set is a large number in the original: any from 4096 on makes the endpoint 0.
+// An offset whose top bit is set is a large number in the original: any from 4096 on makes the
+// endpoint 0.
 fn keep(d: u16, half: u16) -> u16
     ensures { λ r. ⌜ (r ≡ kept d half) × (r ≤ 4096 + half) ⌝ }
 {
@@ -85,7 +87,7 @@ fn offset(mode: u8, x: u8) -> u16
     }
 }
 
-// 2^(3 - mode/2).
+// What the numbers of a sub-mode are multiplied by: 2^(3 - mode/2).
 fn scale(mode: u8) -> u16
     requires { ⌜ mode < 8 ⌝ }
     ensures { λ r. ⌜ (r ≡ 2 ^ (3 - mode / 2)) × (r ≤ 8) ⌝ }

@@ -84,7 +84,7 @@ pub(crate) fn luminance_small(v0: u8, v1: u8) -> Endpoints
     set_endpoint_grey(y, at_most_4095(y + w % 16 * 2))
 }
 
-// a - b, or 0.
+// a - b, and 0 where b is the larger.
 pub(crate) fn lessened(a: u16, b: u16) -> u16
     requires { ⌜ a ≤ 4095 ⌝ }
     ensures { λ r. ⌜ r ≡ less a b ⌝ }
@@ -122,7 +122,8 @@ fn mode_seven(n: u8) -> u8
     if n != 15 { 4 } else { 5 }
 }
 
-// The second colour less s.
+// A colour of mode 7 less s: the second endpoint where s is 0, the first where s is the scale. In
+// sub-modes 0 to 4 green and blue are differences to red.
 fn less_seven(mode: u8, c: Seven, s: u16) -> Rgb
     requires { ⌜ Below 4096 c ⌝ ∗ ⌜ s < 4096 ⌝ }
     ensures { λ r. ⌜ r ≡ sevenLess mode c s ⌝ }

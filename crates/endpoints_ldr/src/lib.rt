@@ -57,7 +57,7 @@ fn set_endpoint_blue(c: Rgba, d: Rgba) -> Endpoints
     set_endpoint(contract(c), contract(d))
 }
 
-// A number with 32 added, brought into a byte.
+// Takes 32 from a number to which it was added, and brings what is left into 0..255.
 fn clamp(x: u16) -> u16
     ensures { λ r. ⌜ r ≡ clamped x ⌝ }
 {
@@ -78,14 +78,15 @@ fn clamp_each(c: Rgba) -> Rgba
     }
 }
 
-// Of numbers with 32 added.
+// The endpoints of two colours to whose components 32 is added, clamped to 0..255.
 fn set_endpoint_clamp(c: Rgba, d: Rgba) -> Endpoints
     ensures { λ r. ⌜ r ≡ clampedPair c d ⌝ }
 {
     set_endpoint(clamp_each(c), clamp_each(d))
 }
 
-// Of numbers with 32 added.
+// The endpoints of two colours to whose components 32 is added, both contracted and then clamped to
+// 0..255.
 fn set_endpoint_blue_clamp(c: Rgba, d: Rgba) -> Endpoints
     requires { ⌜ Narrow c × Narrow d ⌝ }
     ensures { λ r. ⌜ r ≡ clampedPair (contracted c) (contracted d) ⌝ }
@@ -102,7 +103,7 @@ fn bit_transfer_signed(offset: u8, base: u8) -> Transfer
     }
 }
 
-// Three equal components, and an alpha.
+// A colour with three equal components and an alpha.
 fn grey(x: u16, a: u16) -> Rgba
     ensures { λ r. ⌜ r ≡ record { r = x; g = x; b = x; a = a } ⌝ }
 {
@@ -151,7 +152,8 @@ fn share(x: u8, s: u8) -> u16
     x as u16 * s as u16 / 256
 }
 
-// The second colour, and the first as its scaled part.
+// The endpoints of modes 6 and 10: the second is the colour of the values, the first is that colour
+// times the scale.
 fn scaled_endpoints(v: Values, a0: u8, a1: u8) -> Endpoints
     ensures { λ r. ⌜ r ≡ scaled v a0 a1 ⌝ }
 {
@@ -212,7 +214,7 @@ fn offset_alphas(mode: u8, v6: u8, v7: u8) -> Alphas
     }
 }
 
-// The alphas come with 32 added.
+// The endpoints of modes 9 and 13, from their values and from alphas to which 32 is added.
 fn offset_endpoints(v: Values, t: Alphas) -> Endpoints
     ensures { λ r. ⌜ r ≡ offset v (t .first) (t .second) ⌝ }
 {

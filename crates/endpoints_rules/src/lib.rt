@@ -1,4 +1,5 @@
-// The sixteen endpoint modes as the standard and the original have them: definitions, and the numbers that they speak of. No code.
+// The sixteen endpoint modes as the standard and the original have them: definitions, and the
+// numbers that they speak of. No code.
 
 // A colour without its alpha.
 pub struct Rgb {

@@ -8,8 +8,8 @@ ghost use Rattle.sequence_ranges.specs.Ranges.{rangeOf, levels};
 ghost use Rattle.endpoints_unquantise.specs.Unquantised.{endpointValues};
 ghost use Rattle.endpoints_unquantise.specs.Closed.{flipped, unpacked, copied, Narrow, NarrowRepeat, Unpacks, Repeats};
 
-// The rule by which a range of trits or quints becomes bytes. Value d * 2^bits + m, with x the bits of m above the
-// lowest, is d * by + x * spread + (x >> over) before the lowest bit is brought in.
+// The rule by which a range of trits or quints becomes bytes. Value d * 2^bits + m, with x the bits
+// of m above the lowest, is d * by + x * spread + (x >> over) before the lowest bit is brought in.
 pub struct Rule {
     pub bits: u16,
     pub by: u16,
@@ -72,7 +72,7 @@ fn rule_of(q: usize) -> Rule
     }
 }
 
-// x, or its complement where v is odd.
+// x where v is even, and its complement where v is odd.
 fn flip(v: u8, x: u8) -> u8
     ensures { λ r. ⌜ r ≡ flipped v x ⌝ }
 {
@@ -90,7 +90,8 @@ fn unpack(p: Rule, v: u8) -> u8
     flip(v, (t / 4 % 256) as u8)
 }
 
-// The values up to the next multiple of 8: a loop without a remainder.
+// Puts the bytes of n values, and of zeros up to the next multiple of 8, so that the loop has no
+// remainder.
 fn unpack_all(out: &mut [u8; 32], n: usize, p: Rule, seq: &[u8; 72])
     requires { ⌜ n ≤ 18 ⌝ ∗ ⌜ Narrow p ⌝ }
     ensures { λ r. ⌜ now (out .exit) ≡
@@ -134,7 +135,8 @@ fn copy_bits(p: Repeat, v: u8) -> u8
     ((w * p.spread + (w >> p.over)) % 256) as u8
 }
 
-// The values up to the next multiple of 8: a loop without a remainder.
+// Puts the bytes of n values, and of zeros up to the next multiple of 8, so that the loop has no
+// remainder.
 fn copy_all(out: &mut [u8; 32], n: usize, p: Repeat, seq: &[u8; 72])
     requires { ⌜ n ≤ 18 ⌝ ∗ ⌜ NarrowRepeat p ⌝ }
     ensures { λ r. ⌜ now (out .exit) ≡

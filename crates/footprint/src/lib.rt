@@ -5,7 +5,7 @@ ghost use Rattle.footprint.specs.Footprints.{oneOf2, listed};
 // The texels of the largest footprint.
 pub const TEXELS: usize = 144;
 
-// A weight for each of them, in two planes.
+// The weights of the largest footprint: one for each texel in each of two planes.
 pub const WEIGHTS: usize = 288;
 
 pub struct Footprint {

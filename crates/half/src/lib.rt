@@ -51,9 +51,10 @@ fn between(low: u16, h: u16, high: u16) -> u16
     }
 }
 
-// The byte of an HDR channel's half, which has no sign. From 1.0 on, infinity and NaN with it, it is 255, and below 2^-13 it is 0, so that the half is
-// brought between the two first. Then 2^23 times its product is a whole number, and the casts lose nothing (an `f32` beyond 2^24 is cast to no integer,
-// an `f64` is).
+// The byte of an HDR channel's half, which has no sign. From 1.0 on, infinity and NaN with it, it
+// is 255, and below 2^-13 it is 0, so that the half is brought between the two first. Then 2^23
+// times its product is a whole number, and the casts lose nothing (an `f32` beyond 2^24 is cast to
+// no integer, an `f64` is).
 pub fn hdr_to_u8(h: u16) -> u8
     requires { ⌜ h < 32768 ⌝ }
     ensures { λ r. ⌜ r ≡ hdrByteOf h ⌝ }
@@ -62,8 +63,8 @@ pub fn hdr_to_u8(h: u16) -> u8
     ((p as f64 * 8388608.0) as i32 as u32 / 8388608) as u8
 }
 
-// The byte of a void extent's half, as the original's `f32_to_u8` has it: the HDR rule up to plus infinity, then 0 for every NaN and every
-// negative number, but 255 for minus infinity.
+// The byte of a void extent's half, as the original's `f32_to_u8` has it: the HDR rule up to plus
+// infinity, then 0 for every NaN and every negative number, but 255 for minus infinity.
 pub fn f16_to_u8(h: u16) -> u8
     ensures { λ r. ⌜ r ≡ voidByteOf h ⌝ }
 {

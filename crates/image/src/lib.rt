@@ -12,7 +12,8 @@ pub struct Cursor {
     pub next: usize,
 }
 
-// What a step comes to: its answer, the cursor for the next one, the blocks painted, and how many of them break a rule.
+// What a step comes to: its answer, the cursor for the next one, the blocks painted, and how many
+// of them break a rule.
 pub struct Step {
     pub answer: usize,
     pub cursor: Cursor,
@@ -61,7 +62,8 @@ fn moved(c: Cursor, n: usize, bad: usize) -> Step
     }
 }
 
-// Paints the image of its blocks' bytes and gives the answer; a refusal leaves the output as it was.
+// Paints the image of its blocks' bytes and gives the answer; a refusal leaves the output as it
+// was.
 pub fn decode_astc(data: &[u8], m: Shape, out: &mut [u32]) -> usize
     ensures { λ a. ⌜ a ≡ refusalOf m (length (now («data» .entry))) (length (now (out .entry))) ⌝ }
     ensures { λ a. ⌜ now (out .exit) ≡ imageOf (now («data» .entry)) m (now (out .entry)) ⌝ }
@@ -76,7 +78,8 @@ pub fn decode_astc(data: &[u8], m: Shape, out: &mut [u32]) -> usize
 }
 
 impl Cursor {
-    // Paints the next blocks, as many as are asked for or are left. A refused step hands the cursor back as given.
+    // Paints the next blocks, as many as are asked for or are left. A refused step hands the cursor
+    // back as given.
     pub fn step(self, data: &[u8], blocks: usize, out: &mut [u32]) -> Step
         ensures { λ r. ⌜ r ≡
             stepOf (now («data» .entry)) self blocks (length (now (out .entry))) ⌝ }

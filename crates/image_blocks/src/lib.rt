@@ -22,7 +22,7 @@ pub struct Spot {
     pub row: usize,
 }
 
-// The block after it, in rows of so many.
+// The block after the one at a spot, where a row has `across` blocks.
 fn next(at: Spot, across: usize) -> Spot
     requires { ⌜ (at .block + 1 < 2 ^ 64) × ((at .row ≤ at .block) × (at .column < across)) ⌝ }
     ensures { λ r. ⌜ r ≡ nextOf at across ⌝ }

@@ -5,7 +5,7 @@ ghost use Rattle.image_shape.specs.Shapes.{alongOf, totalOf, isSide, ref
 ghost use Rattle.image_shape.specs.ShapeLaws.{ShapeBounds};
 use footprint::Footprint;
 
-// The most pixels of a side.
+// The most pixels that a side of an image may have.
 pub const LONGEST_SIDE: usize = 4096;
 
 // The size of an image and the footprint of its blocks.
@@ -24,7 +24,7 @@ fn is_side(n: usize) -> bool
     n <= LONGEST_SIDE
 }
 
-// The blocks of a side along n pixels.
+// How many blocks of `side` pixels it takes to cover n pixels.
 pub fn along(n: usize, side: usize) -> usize
     requires { ⌜ (n ≤ 4096) × ((0 < side) × (side ≤ 12)) ⌝ }
     ensures { λ r. ⌜ (r ≡ alongOf n side) × (r ≤ 4107) ⌝ }
@@ -32,7 +32,7 @@ pub fn along(n: usize, side: usize) -> usize
     (n + (side - 1)) / side
 }
 
-// The blocks of an image.
+// How many blocks an image has.
 pub fn total(m: Shape) -> usize
     requires { ⌜ ShapeBounds m ⌝ }
     ensures { λ r. ⌜ (r ≡ totalOf m) × (r ≤ 16867449) ⌝ }
@@ -63,7 +63,8 @@ pub fn refusal(m: Shape, len: usize, room: usize) -> usize
     answers::FOOTPRINT
 }
 
-// 0, or why a step of so many blocks from the block `next` on is refused, the image's own refusals first.
+// 0, or why a step of so many blocks from the block `next` on is refused, the image's own refusals
+// first.
 pub fn step_refusal(m: Shape, next: usize, len: usize, blocks: usize, room: usize) -> usize
     ensures { λ r. ⌜ r ≡ stepRefusal m next len blocks room ⌝ }
 {

@@ -1,4 +1,5 @@
-// The window of a block in an image: where its pixels stand, copied from lanes or filled with one word.
+// The window of a block in an image: where its pixels stand, copied from lanes or filled with one
+// word.
 ghost use mathlib.Core.Path.{_≡_};
 ghost use Prim.Native.Nat.{ℕ, _+_, _*_, _≤_, _<_, min};
 ghost use lib.ListN.{length};
@@ -43,7 +44,8 @@ fn place(m: Shape, y: usize, x: usize) -> usize
     y * m.width + x
 }
 
-// Where a block's pixels stand: the place of the first, and how many columns and rows of them lie in the image.
+// Where a block's pixels stand: the place of the first, and how many columns and rows of them lie
+// in the image.
 pub struct Window {
     pub at: usize,
     pub columns: usize,
@@ -64,7 +66,8 @@ fn window_of(m: Shape, x: usize, y: usize) -> Window
     }
 }
 
-// Copies the first n texels of each of the rows, `bw` texels apart, to rows of out that start `width` apart from place `at` on.
+// Copies the first n texels of each of the rows, `bw` texels apart, to rows of out that start
+// `width` apart from place `at` on.
 fn copy_rows(
     lanes: &[u16; LANES],
     bw: usize,
@@ -86,7 +89,8 @@ fn copy_rows(
     }
 }
 
-// Copies the words of the block in column x and row y to its pixels, as far as it lies in the image.
+// Copies the words of the block in column x and row y to its pixels, as far as it lies in the
+// image.
 pub fn copy_block(lanes: &[u16; LANES], m: Shape, x: usize, y: usize, out: &mut [u32])
     requires { ⌜ (ShapeBounds m) × ((Inside m x y) × (pixelsOf m ≤ length (now out))) ⌝ }
     ensures { λ _. ⌜ now (out .exit) ≡
@@ -105,7 +109,8 @@ pub fn copy_block(lanes: &[u16; LANES], m: Shape, x: usize, y: usize, out: &mut 
     );
 }
 
-// Fills the first n places of each of the rows of out, which start `width` apart from place `at` on.
+// Fills the first n places of each of the rows of out, which start `width` apart from place `at`
+// on.
 fn fill_rows(word: u32, out: &mut [u32], at: usize, width: usize, rows: usize, n: usize)
     requires { ⌜ RowsFit at width n rows (length (now out)) ⌝ }
     ensures { λ _. ⌜ now (out .exit) ≡
@@ -118,8 +123,9 @@ fn fill_rows(word: u32, out: &mut [u32], at: usize, width: usize, rows: usize, n
     }
 }
 
-// Fills the pixels of the block in column x and row y, as far as it lies in the image, with one word. A row as wide as a footprint has a
-// loop of its own: of a number of places that the compiler knows.
+// Fills the pixels of the block in column x and row y, as far as it lies in the image, with one
+// word. A row as wide as a footprint has a loop of its own: of a number of places that the compiler
+// knows.
 pub fn fill_block(word: u32, m: Shape, x: usize, y: usize, out: &mut [u32])
     requires { ⌜ (ShapeBounds m) × ((Inside m x y) × (pixelsOf m ≤ length (now out))) ⌝ }
     ensures { λ _. ⌜ now (out .exit) ≡

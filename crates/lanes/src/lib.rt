@@ -1,5 +1,5 @@
-// Numbers of 16 bits, lanes, as loops write them for eight texels at a time: the words of texels in two lanes each, which leave whole for an
-// output, or their samples in four.
+// Numbers of 16 bits, lanes, as loops write them for eight texels at a time: the words of texels in
+// two lanes each, which leave whole for an output, or their samples in four.
 ghost use mathlib.Core.Path.{_≡_};
 ghost use Prim.Native.Nat.{ℕ, _+_, _≤_, _<_};
 ghost use lib.ListN.{length};
@@ -16,7 +16,7 @@ pub enum Form {
     Samples,
 }
 
-// The next multiple of eight: a loop to there has no remainder.
+// n rounded up to a multiple of eight: a loop over eight lanes at a time has no remainder there.
 pub fn eights(n: usize) -> usize
     requires { ⌜ n ≤ mostWeights ⌝ }
     ensures { λ r. ⌜ r ≡ eights n ⌝ }
@@ -24,7 +24,7 @@ pub fn eights(n: usize) -> usize
     (n + 7) / 8 * 8
 }
 
-// A cast in a function of its own: its caller need not show that the number fits.
+// A cast in a function of its own, so that its caller need not show that the number fits.
 fn u32_of(x: u16) -> u32
     ensures { λ r. ⌜ (r ≡ x) × (r < 65536) ⌝ }
 {

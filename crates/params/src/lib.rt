@@ -12,7 +12,8 @@ ghost use Rattle.params_rules.specs.Fields.{extraIn};
 ghost use Rattle.params_room.specs.RoomLaws.{LegalConfig};
 ghost use Rattle.params.specs.Params.{channelOf, upperOf, codeIn, legal, refused, paramsOf};
 
-// The mode code is the mode bits as they stand in a block, as one number; the base that goes with it stands in the configuration.
+// The mode code is the mode bits as they stand in a block, as one number; the base that goes with
+// it stands in the configuration.
 pub struct Params {
     pub answer: usize,
     pub config: Config,
@@ -22,7 +23,8 @@ pub struct Params {
     pub endpoint_range: usize,
 }
 
-// The extra field: the mode bits below the weights, and below those the channel of the second plane.
+// The extra field: the mode bits below the weights, and below those the channel of the second
+// plane.
 fn extra_field(b: Block, k: Config) -> usize
     requires { ⌜ LegalConfig k ⌝ }
     ensures { λ r. ⌜ (r ≡ extraIn k (valueOf b)) × (r < 1024) ⌝ }
@@ -99,8 +101,9 @@ fn refuse(answer: usize) -> Params
     }
 }
 
-// The parameters of the block b, which is not void, at the footprint f. The decoder has this function to itself, where params_map has the map:
-// it is then compiled into the decoder, and what nobody reads there is not worked out.
+// The parameters of the block b, which is not void, at the footprint f. The decoder has this
+// function to itself, where params_map has the map: it is then compiled into the decoder, and what
+// nobody reads there is not worked out.
 pub fn decode_block_params(b: Block, f: Footprint) -> Params
     requires { ⌜ isVoid (valueOf b) ≡ false ⌝ }
     ensures { λ r. ⌜ r ≡ paramsOf (valueOf b) f ⌝ }

@@ -1,4 +1,5 @@
-// What the low configuration of a block says: the grid of its weights, their range and planes, its partitions and where their modes stand.
+// What the low configuration of a block says: the grid of its weights, their range and planes, its
+// partitions and where their modes stand.
 ghost use mathlib.Core.Path.{_≡_};
 ghost use mathlib.Core.Bool.{false};
 ghost use Prim.Native.Nat.{_*_, _≤_, _<_};
@@ -11,7 +12,7 @@ pub struct Grid {
     pub height: usize,
 }
 
-// What it says of the partitions.
+// What the low configuration says of the partitions.
 pub struct Partitions {
     pub parts: usize,
     pub number: usize,
@@ -22,8 +23,9 @@ pub struct Partitions {
     pub mode_bits: usize,
 }
 
-// What the low configuration says of a block whose mode is not reserved. The base and the low modes are the endpoint modes as they
-// stand in it: the base is 0 where one mode serves all partitions, and the low modes are the four lowest of the mode bits.
+// What the low configuration says of a block whose mode is not reserved. The base and the low modes
+// are the endpoint modes as they stand in it: the base is 0 where one mode serves all partitions,
+// and the low modes are the four lowest of the mode bits.
 pub struct Config {
     pub width: usize,
     pub height: usize,
@@ -164,7 +166,8 @@ fn d_of(c: usize) -> usize
     if lacks_dh(c) { 0 } else { c / 1024 % 2 }
 }
 
-// The mode bits of a block with several partitions that stand below its weights: with a base, 3 for each partition less 4.
+// The mode bits of a block with several partitions that stand below its weights: with a base, 3 for
+// each partition less 4.
 fn extra_mode_bits(parts: usize, base: usize) -> usize
     requires { ⌜ (2 ≤ parts) × (parts ≤ 4) ⌝ }
     ensures { λ r. ⌜ r ≡ extraModeBits parts base ⌝ }

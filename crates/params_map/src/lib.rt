@@ -11,7 +11,8 @@ ghost use Rattle.params_config.specs.Ranges.{cost};
 ghost use Rattle.params_room.specs.RoomLaws.{LegalConfig};
 ghost use Rattle.params_map.specs.Map.{legalMap, noMap, mapOf};
 
-// The answer of a block and, where it is legal, start and length of each of its fields and the largest value of its endpoints' range.
+// The answer of a block and, where it is legal, start and length of each of its fields and the
+// largest value of its endpoints' range.
 pub struct BlockMap {
     pub answer: usize,
     pub top: usize,

@@ -1,4 +1,5 @@
-// The endpoint modes of a block's partitions, by the base and the mode bits that stand in the block, and the values that they take.
+// The endpoint modes of a block's partitions, by the base and the mode bits that stand in the
+// block, and the values that they take.
 ghost use mathlib.Core.Path.{_≡_};
 ghost use Prim.Native.Nat.{_≤_, _<_};
 ghost use Rattle.params_modes.specs.Modes.{classIn, modeIn, modeAt, modesOf, valuesTo};

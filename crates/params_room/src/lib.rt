@@ -32,8 +32,8 @@ fn whole_bits(n: usize, room: usize) -> usize
     room * inverse(n) / 65536
 }
 
-// The widest range whose n values fit room bits. With k whole bits a value, three ranges can be it: trits with k - 1
-// bits, quints with k - 2, and plain ones with k.
+// The widest range whose n values fit room bits. With k whole bits a value, three ranges can be it:
+// trits with k - 1 bits, quints with k - 2, and plain ones with k.
 fn widest_range(n: usize, room: usize) -> usize
     requires { ⌜ Roomy n room ⌝ }
     ensures { λ r. ⌜ (r ≡ widest 16 n (128 - room)) × (r < 21) ⌝ }

@@ -19,7 +19,7 @@ fn used_bits(k: Config) -> usize
     k.low_len + extra_len(k) + k.weight_len
 }
 
-// Rules 15 and 16.
+// Tests rules 15 and 16, on the endpoint values.
 fn judge_ends(k: Config) -> usize
     requires { ⌜ ConfigBounds k ⌝ }
     ensures { λ r. ⌜ r ≡ endVerdict k ⌝ }
@@ -33,7 +33,8 @@ fn judge_ends(k: Config) -> usize
     answers::LEGAL
 }
 
-// Rules 11 to 16: the first that what k says breaks at the footprint f, and LEGAL if it breaks none.
+// Rules 11 to 16: the first that what k says breaks at the footprint f, and LEGAL if it breaks
+// none.
 pub fn judge(k: Config, f: Footprint) -> usize
     requires { ⌜ ConfigBounds k ⌝ }
     ensures { λ r. ⌜ r ≡ verdict k f ⌝ }

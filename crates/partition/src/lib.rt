@@ -12,7 +12,8 @@ use footprint::TEXELS;
 use partition_ramps::Ramp;
 use partition_ramps::ramp_of;
 
-// The ramp that starts where k does in row t.
+// The ramp k moved down to row t: it starts with the value that k has in the first column of that
+// row.
 fn moved(k: Ramp, t: usize) -> Ramp
     requires { ⌜ (Gentle k) × (t < 12) ⌝ }
     ensures { λ r. ⌜ r ≡ movedTo k t ⌝ }
@@ -125,8 +126,8 @@ fn scale_of(f: Footprint) -> u16
     if f.width * f.height < 31 { 2 } else { 1 }
 }
 
-// Puts the partition of each texel of a footprint, row by row. The hash and the ramps are worked out once a block; with three partitions the
-// fourth ramp is flat.
+// Puts the partition of each texel of a footprint, row by row. The hash and the ramps are worked
+// out once a block; with three partitions the fourth ramp is flat.
 pub fn select_partition(out: &mut [u8; TEXELS], number: u32, parts: usize, f: Footprint)
     requires { ⌜ (number < 1024) × (((2 ≤ parts) × (parts ≤ 4)) × (Sides f)) ⌝ }
     ensures { λ _. ⌜ now (out .exit) ≡

@@ -4,14 +4,15 @@ ghost use Prim.Native.Nat.{_≤_, _<_};
 ghost use Rattle.partition_ramps.specs.Ramps.{hash52, byBit, byCount, shiftX, shiftY, factor};
 ghost use Rattle.partition_ramps.specs.Held.{rampOf};
 
-// A ramp over a footprint: its value at the first texel, and its slopes along a row and down a column.
+// A ramp over a footprint: its value at the first texel, and its slopes along a row and down a
+// column.
 pub struct Ramp {
     pub start: u16,
     pub along: u16,
     pub down: u16,
 }
 
-// The standard's hash of a seed.
+// The standard's hash of a seed, `hash52`.
 pub fn hash(seed: u32) -> u32
     ensures { λ r. ⌜ r ≡ hash52 seed ⌝ }
 {
@@ -67,7 +68,8 @@ fn slope(r: u32, at: u32, shift: u32) -> u16
     (v * v >> shift) as u16
 }
 
-// Ramp i of the hash r of a seed. A scale of 2 doubles the slopes, where the standard doubles the coordinates.
+// Ramp i of the hash r of a seed. A scale of 2 doubles the slopes, where the standard doubles the
+// coordinates.
 pub fn ramp_of(r: u32, seed: u32, parts: usize, i: u32, scale: u16) -> Ramp
     requires { ⌜ (r ≡ hash52 seed) × ((i < 4) × (scale ≤ 2)) ⌝ }
     ensures { λ k. ⌜ k ≡ rampOf seed parts i scale ⌝ }

@@ -18,7 +18,8 @@ fn expected(whole: &[u32], n: usize, k: usize) -> u32
     MARKER
 }
 
-// How many of the words hold something else than they should where n words were painted, as `whole` has them.
+// How many of the words hold something else than they should where n words were painted, as `whole`
+// has them.
 pub fn count_differences(words: &[u32], whole: &[u32], n: usize) -> usize
     requires { ⌜ length (now words) ≡ length (now whole) ⌝ }
     ensures { λ r. ⌜ r ≡
@@ -33,7 +34,8 @@ pub fn count_differences(words: &[u32], whole: &[u32], n: usize) -> usize
     found
 }
 
-// What a walk in steps came to: whether it still moved, the blocks painted, those that break a rule, and the steps refused.
+// What a walk in steps came to: whether it still moved, the blocks painted, those that break a
+// rule, and the steps refused.
 pub struct Came {
     pub moving: bool,
     pub painted: usize,
@@ -41,7 +43,8 @@ pub struct Came {
     pub refused: usize,
 }
 
-// Whether a walk over an image of so many blocks, of which so many break a rule, left any other words or counts than it should.
+// Whether a walk over an image of so many blocks, of which so many break a rule, left any other
+// words or counts than it should.
 pub fn differs(w: Came, blocks: usize, bad: usize, found: usize) -> bool
     ensures { λ r. ⌜ r ≡ differsFrom w blocks bad found ⌝ }
 {

@@ -4,7 +4,7 @@ ghost use mathlib.Core.Bool.{cond};
 ghost use Prim.Native.Nat.{_≤_};
 ghost use Rattle.program_counts.specs.Counts.{more};
 
-// A count with n more. It would stay at the largest number, which no run reaches.
+// A count with n more. Past the largest number it would stay at that, which no run reaches.
 pub fn added(count: usize, n: usize) -> usize
     ensures { λ r. ⌜ r ≡ more count n ⌝ }
 {

@@ -1,6 +1,7 @@
-// Answers requests for the values of the layers, so that the Rust side can hold them to the original.
-// A request is 32 bytes: what is asked for, up to fifteen numbers, and a block. An answer is 288 bytes; what a request
-// does not fill is 0, and so is all of it where the numbers are out of bounds.
+// Answers requests for the values of the layers, so that the Rust side can hold them to the
+// original. A request is 32 bytes: what is asked for, up to fifteen numbers, and a block. An answer
+// is 288 bytes; what a request does not fill is 0, and so is all of it where the numbers are out of
+// bounds.
 use bits::Block;
 use endpoints_colours::Endpoints;
 use endpoints_colours::Mark;
@@ -81,7 +82,7 @@ fn put_u64(out: &mut [u8; 288], i: usize, x: u64)
     put_u32(out, i + 4, (x / 0x1_0000_0000) as u32);
 }
 
-// A field of the block, and the block reversed.
+// Answers with a field of the block and with the block reversed.
 fn reply_bits(out: &mut [u8; 288], ask: &[u8; 32]) {
     let b = block_of(ask);
     let start = at(ask, 1);
@@ -94,7 +95,7 @@ fn reply_bits(out: &mut [u8; 288], ask: &[u8; 32]) {
     put_u64(out, 16, r.hi);
 }
 
-// An entry of each table.
+// Answers with an entry of each table.
 fn reply_tables(out: &mut [u8; 288], ask: &[u8; 32]) {
     let i = at(ask, 1);
     let rev = bits_reversal::reversal();
@@ -120,7 +121,8 @@ fn legal_range(q: usize) -> Range
     sequence_ranges::range_of(q)
 }
 
-// n values of range q: upwards from a bit on, or downwards from the block's end.
+// The n values of a sequence of range q, read upwards from bit `offset` or downwards from the
+// block's end.
 fn values_of(b: Block, q: usize, n: usize, offset: usize, down: bool) -> [u8; 72]
     requires { ⌜ (q < 21) × ((n ≤ 64) × (offset ≤ 128)) ⌝ }
     ensures { λ r. ⌜ ValuesIn q n r ⌝ }
@@ -184,7 +186,8 @@ fn put_half(out: &mut [u8; 288], i: usize, h: u16)
     }
 }
 
-// Sixteen halves from one on, ten bytes each; the HDR rule is asked for halves with no sign alone.
+// Answers with what is made of sixteen halves, ten bytes each. The HDR rule is asked for halves
+// without a sign alone.
 fn reply_halves(out: &mut [u8; 288], ask: &[u8; 32]) {
     let first = pair_at(ask, 1);
     let mut i = 0;
@@ -240,7 +243,8 @@ fn footprint_at(ask: &[u8; 32], i: usize) -> Footprint
     }
 }
 
-// The parameters of the block at a footprint, and whether that is listed.
+// Answers with the parameters of the block at a footprint, and with whether that footprint is
+// listed.
 fn reply_params(out: &mut [u8; 288], ask: &[u8; 32]) {
     let f = footprint_at(ask, 1);
     let b = block_of(ask);
@@ -335,7 +339,7 @@ fn mode_at(ask: &[u8; 32], i: usize) -> u8
     (at(ask, i) % 16) as u8
 }
 
-// The endpoints of up to four partitions, in range q.
+// Answers with the endpoints of up to four partitions, from values of range q.
 fn reply_endpoints(out: &mut [u8; 288], ask: &[u8; 32]) {
     let parts = at(ask, 1);
     let q = at(ask, 6);
@@ -410,7 +414,7 @@ fn put_inside(out: &mut [u8; 288], g: Grid, q: usize, b: Block)
     }
 }
 
-// The weights of the texels of a grid of range q at a footprint.
+// Answers with the weights of the texels of a grid of range q at a footprint.
 fn reply_weights(out: &mut [u8; 288], ask: &[u8; 32]) {
     let f = footprint_at(ask, 1);
     let g = Grid {
@@ -436,7 +440,7 @@ fn put_partition(out: &mut [u8; 288], partitions: &[u8; TEXELS]) {
     }
 }
 
-// The partition of each texel of a footprint.
+// Answers with the partition of each texel of a footprint.
 fn reply_partition(out: &mut [u8; 288], ask: &[u8; 32]) {
     let number = pair_at(ask, 1);
     let parts = at(ask, 3);
@@ -493,7 +497,8 @@ fn hdr(v0: usize, v1: usize, w: usize) -> usize
     usize_of(blend::select_color_hdr(v0 as u32, v1 as u32, w as u32))
 }
 
-// The channels of two endpoints at all weights: LDR, the same in 16 bits, and HDR.
+// Answers with the channels of two endpoints at all weights: LDR by the formula, LDR in 16 bits,
+// and HDR.
 fn reply_blend(out: &mut [u8; 288], ask: &[u8; 32]) {
     let v0 = pair_at(ask, 1);
     let v1 = pair_at(ask, 3);
@@ -506,7 +511,7 @@ fn reply_blend(out: &mut [u8; 288], ask: &[u8; 32]) {
     }
 }
 
-// The word of four channels.
+// Answers with the word of four channels.
 fn reply_color(out: &mut [u8; 288], ask: &[u8; 32]) {
     put_u32(out, 0, blend::color(ask[1], ask[2], ask[3], ask[4]));
 }
@@ -543,7 +548,8 @@ fn answer() -> bool {
     send(&out)
 }
 
-// A proved loop has to end, and nothing says that the requests do: it counts down from a number that no run uses up.
+// A proved loop has to end, and nothing says that the requests do: it counts down from a number
+// that no run uses up.
 fn main() {
     let mut turns = u64::MAX;
     while turns > 0 && answer() {

@@ -1,4 +1,5 @@
-// The line of a listed block: its number, its answer, and its first texel's colour where the block was painted.
+// The line of a listed block: its number, its answer, and its first texel's colour where the block
+// was painted.
 ghost use Prim.Native.Nat.{_+_, _≤_};
 ghost use lib.ListN.{length};
 ghost use Rattle.program_text.specs.Text.{Placed};
@@ -26,7 +27,8 @@ fn put_colour(line: &mut [u8], at: usize, word: u32) -> usize
     put_field(line, blue, (word / 0x100_0000) as u64)
 }
 
-// Lays out the line of a block by its number, its answer and its first texel's word, and gives the line's length.
+// Lays out the line of a block by its number, its answer and its first texel's word, and gives the
+// line's length.
 pub fn lay_out(line: &mut [u8], number: u64, answer: usize, word: u32) -> usize
     requires { ⌜ 126 ≤ length (now line) ⌝ }
     ensures { λ r. ⌜ Placed (now (line .entry)) 0 (lineOf number answer word) (now (line .exit))

@@ -1,5 +1,6 @@
-// Lists blocks: a line for each record of standard input, with its number, its answer and its first texel's colour.
-// A record is 18 bytes: the width and height of a footprint, and a block. A short last one has the answer 20.
+// Lists blocks: a line for each record of standard input, with its number, its answer and its first
+// texel's colour. A record is 18 bytes: the width and height of a footprint, and a block. A short
+// last one has the answer 20.
 use footprint::Footprint;
 use footprint::TEXELS;
 use libc::STDERR_FILENO;
@@ -44,7 +45,8 @@ fn lay_out_record(line: &mut [u8], number: u64, bytes: &[u8]) -> usize
     program_line::lay_out(line, number, answer, words[0])
 }
 
-// Says on the error output that the input cannot be read, where it ended for that: a further read tells.
+// Says on the error output that the input cannot be read, where it ended for that: a further read
+// tells.
 fn report_end() {
     let mut probe = [0u8; 1];
     if libc::read(STDIN_FILENO, &mut probe) < 0 {
@@ -79,7 +81,8 @@ fn list(number: u64) -> bool {
     is_written
 }
 
-// A proved loop has to end, and nothing says that the input does: it would stop at a number that no run reaches.
+// A proved loop has to end, and nothing says that the input does: it would stop at a number that no
+// run reaches.
 fn main() {
     let mut number = 0;
     while number < u64::MAX && list(number) {

@@ -1,6 +1,6 @@
-// Decodes a stored list of blocks anew, and counts the records whose answer or words come out otherwise.
-// A record of standard input is a footprint's width and height, the answer, the sixteen bytes of a block, and for each
-// texel a word of four bytes, the low one first.
+// Decodes a stored list of blocks anew, and counts the records whose answer or words come out
+// otherwise. A record of standard input is a footprint's width and height, the answer, the sixteen
+// bytes of a block, and for each texel a word of four bytes, the low one first.
 use footprint::Footprint;
 use footprint::TEXELS;
 use libc::STDIN_FILENO;
@@ -65,7 +65,8 @@ fn read_record(head: &mut [u8; 19], stored: &mut [u8]) -> Record
     read_words(stored, f.width * f.height)
 }
 
-// Decodes the block of a whole record anew and counts the record, and its stored answer among the answers.
+// Decodes the block of a whole record anew and counts the record, and its stored answer among the
+// answers.
 fn replay_record(t: Tally, answers: &mut [usize; 256], head: &[u8; 19], stored: &[u8; 576]) -> Tally
     ensures { λ r. ⌜ r ≡ replayedIn t (now (head .entry)) (now (stored .entry)) ⌝ }
     ensures { λ r. ⌜ now (answers .exit) ≡ answerIn (now (answers .entry)) (now (head .entry)) ⌝ }
@@ -89,7 +90,8 @@ fn replay(t: Tally, answers: &mut [usize; 256]) -> Tally {
     }
 }
 
-// A proved loop has to end, and nothing says that the records do: it counts down from a number that no run uses up.
+// A proved loop has to end, and nothing says that the records do: it counts down from a number that
+// no run uses up.
 fn replay_all(answers: &mut [usize; 256]) -> Tally {
     let mut t = Tally {
         running: true,

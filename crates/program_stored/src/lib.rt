@@ -1,6 +1,6 @@
-// What a stored record of a block is, and how it is counted: whether a decoder gives its answer and its words.
-// Its head is a footprint's width and height, the answer, and the sixteen bytes of a block; for each texel a word of four
-// bytes, the low one first, is stored after it.
+// What a stored record of a block is, and how it is counted: whether a decoder gives its answer and
+// its words. Its head is a footprint's width and height, the answer, and the sixteen bytes of a
+// block; for each texel a word of four bytes, the low one first, is stored after it.
 use footprint::TEXELS;
 ghost use mathlib.Core.Path.{_≡_};
 ghost use Prim.Native.Nat.{_<_};
@@ -98,7 +98,8 @@ fn counted(t: Tally, words: usize, different: bool) -> Tally
     }
 }
 
-// Counts a whole record against a decoder's answer and words, and its stored answer among the answers.
+// Counts a whole record against a decoder's answer and words, and its stored answer among the
+// answers.
 pub fn count_record(
     t: Tally,
     answers: &mut [usize; 256],

@@ -1,4 +1,5 @@
-// Paints images in steps of many sizes, and counts the runs that come out otherwise than the image painted whole.
+// Paints images in steps of many sizes, and counts the runs that come out otherwise than the image
+// painted whole.
 use footprint::Footprint;
 use footprint::TEXELS;
 use image_shape::Shape;
@@ -79,7 +80,7 @@ fn start_of(f: usize, s: usize) -> image::Cursor
     image::Cursor { shape, next: 0 }
 }
 
-// The blocks of a side along n pixels.
+// How many blocks of `side` pixels it takes to cover n pixels.
 fn along(n: usize, side: usize) -> usize
     requires { ⌜ (n ≤ 40) × ((4 ≤ side) × (side ≤ 12)) ⌝ }
     ensures { λ r. ⌜ r ≤ (n + 3) / 4 ⌝ }
@@ -102,7 +103,7 @@ fn pixels_of(c: image::Cursor) -> usize
     m.width * m.height
 }
 
-// The state of the generator of bytes after another.
+// The next state of the generator of bytes.
 fn advanced(state: u64) -> u64 {
     (state % 0x8000_0000 * 1103515245 + 12345) % 0x8000_0000
 }
@@ -111,8 +112,8 @@ fn byte_of(state: u64) -> u8 {
     (state / 0x1_0000 % 256) as u8
 }
 
-// The first byte of a block of a kind. Kinds 0 to 4 have grids of weights that every footprint has room for, unless kind 1's second
-// byte widens them; 5 is void, and 6 and 7 are any bytes.
+// The first byte of a block of a kind. Kinds 0 to 4 have grids of weights that every footprint has
+// room for, unless kind 1's second byte widens them; 5 is void, and 6 and 7 are any bytes.
 fn first_byte(kind: usize, random: u8) -> u8 {
     match kind {
         0 | 1 => 0x42,
@@ -240,7 +241,8 @@ fn with_run(t: Tally, w: Walk, different: bool) -> Tally {
     }
 }
 
-// The tally with an image painted whole. One that was refused, or changed words after its own, counts as a run that differs.
+// The tally with an image painted whole. One that was refused, or changed words after its own,
+// counts as a run that differs.
 fn with_image(t: Tally, answer: usize, stray: usize) -> Tally {
     Tally {
         images: program_counts::added(t.images, 1),
@@ -291,8 +293,8 @@ fn count_bad(data: &[u8], f: Footprint) -> usize {
     found
 }
 
-// Paints an image in steps of so many blocks, and counts it. Each step but the last paints a block, so that two turns more than
-// there are blocks are never used up.
+// Paints an image in steps of so many blocks, and counts it. Each step but the last paints a block,
+// so that two turns more than there are blocks are never used up.
 fn run(
     t: Tally,
     start: image::Cursor,

@@ -11,7 +11,8 @@ ghost use Rattle.sequence_groups.specs.Sequence.{valuesOf};
 use bits::Block;
 use sequence_ranges::Range;
 
-// The sequence of n values that starts at a bit of the block, upwards, put into out, which is all 0.
+// Puts the n values of the sequence that stands in the block upwards from bit `offset` into out,
+// which is all 0.
 pub fn decode_intseq(
     out: &mut [u8; 72],
     trits: &[u16; 256],
@@ -36,7 +37,8 @@ pub fn decode_intseq(
     )
 }
 
-// The same, downwards from the block's end.
+// Puts the n values of the sequence that stands in the block downwards from bit 127 into out, which
+// is all 0.
 pub fn decode_intseq_reverse(
     out: &mut [u8; 72],
     reversal: &[u8; 256],

@@ -1,4 +1,5 @@
-// One group of an integer sequence, five values with their trits or three with their quints, put into an output, and zeros after the last; and what a sequence of groups is.
+// One group of an integer sequence, five values with their trits or three with their quints, put
+// into an output, and zeros after the last; and what a sequence of groups is.
 ghost use mathlib.Core.Path.{_≡_};
 ghost use Prim.Native.Nat.{ℕ, _+_, _*_, _%_, _^_, _≤_};
 ghost use Rattle.laws.specs.Lists.{put};
@@ -13,8 +14,8 @@ fn u64_of(x: u16) -> u64
     x as u64
 }
 
-// The digits of a group of five, upwards m0 t0 m1 t1 m2 t2 m3 t3 m4 t4, with b bits in each m, and 2, 2, 1, 2, 1 in
-// the t, which make a place in the table.
+// The digits of a group of five, upwards m0 t0 m1 t1 m2 t2 m3 t3 m4 t4, with b bits in each m, and
+// 2, 2, 1, 2, 1 in the t, which make a place in the table.
 fn trit_digits(trits: &[u16; 256], b: usize, d: u64) -> u64
     requires { ⌜ (now trits ≡ tritTable) × (b ≤ 6) ⌝ }
     ensures { λ r. ⌜ r ≡ packed (digitsOf Kind.Trits b d) ⌝ }
@@ -46,7 +47,7 @@ fn quint_digits(quints: &[u16; 128], b: usize, d: u64) -> u64
     u64_of(quints[x as usize])
 }
 
-// A value: the low digit of e above the low b bits of d.
+// A value of a group: the lowest digit of e above the low b bits of d.
 fn value(e: u64, d: u64, b: usize) -> u8
     requires { ⌜ (b ≤ 8) × ((e % 8 + 1) * 2 ^ b ≤ 256) ⌝ }
     ensures { λ r. ⌜ r ≡ e % 8 * 2 ^ b + d % 2 ^ b ⌝ }
@@ -54,7 +55,7 @@ fn value(e: u64, d: u64, b: usize) -> u8
     ((e % 8 << b) + d % (1 << b)) as u8
 }
 
-// The five values of the group d.
+// Puts the five values of the group d, with their trits, to the places from i on.
 pub fn put_trits(out: &mut [u8; 72], i: usize, trits: &[u16; 256], b: usize, d: u64)
     requires { ⌜ (i ≤ 64) × (now trits ≡ tritTable) × (b ≤ 6) ⌝ }
     ensures { λ _. ⌜ now (out .exit) ≡
@@ -73,7 +74,7 @@ pub fn put_trits(out: &mut [u8; 72], i: usize, trits: &[u16; 256], b: usize, d: 
     out[i + 4] = value(e / 4096, m / 128, b);
 }
 
-// The three values of the group d.
+// Puts the three values of the group d, with their quints, to the places from i on.
 pub fn put_quints(out: &mut [u8; 72], i: usize, quints: &[u16; 128], b: usize, d: u64)
     requires { ⌜ (i ≤ 64) × (now quints ≡ quintTable) × (b ≤ 5) ⌝ }
     ensures { λ _. ⌜ now (out .exit) ≡
@@ -88,7 +89,7 @@ pub fn put_quints(out: &mut [u8; 72], i: usize, quints: &[u16; 128], b: usize, d
     out[i + 2] = value(e / 64, m / 32, b);
 }
 
-// Five zeros after n values: the last group may reach so far past them.
+// Puts five zeros after n values, since the last group may have written so far past them.
 pub fn clear(out: &mut [u8; 72], n: usize)
     requires { ⌜ n ≤ 64 ⌝ }
     ensures { λ _. ⌜ now (out .exit) ≡ put (λ (k : ℕ). 0) n (n + 5) (now (out .entry)) ⌝ }

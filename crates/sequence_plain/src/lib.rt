@@ -18,7 +18,7 @@ fn low(d: u64, b: usize) -> u8
     (d % (1 << b)) as u8
 }
 
-// Six values of b bits.
+// Puts the six lowest values of b bits in d to the places from i on.
 fn put_plain(out: &mut [u8; 72], i: usize, b: usize, d: u64)
     requires { ⌜ (i ≤ 64) × (b ≤ 8) ⌝ }
     ensures { λ _. ⌜ now (out .exit) ≡ put (plainFrom b d i) i (i + 6) (now (out .entry)) ⌝ }
@@ -37,7 +37,8 @@ fn put_plain(out: &mut [u8; 72], i: usize, b: usize, d: u64)
     out[i + 5] = low(m, b);
 }
 
-// The n values of the sequence w, six at a time. Values of no bits are 0, as out is.
+// Puts the n values of the sequence w, six at a time. Values of no bits are 0, which out already
+// holds.
 fn decode_plain(out: &mut [u8; 72], w: Block, b: usize, n: usize)
     requires { ⌜ (now out ≡ replicate 72 0) × (b ≤ 8) × (n ≤ 64) ⌝ }
     ensures { λ _. ⌜ now (out .exit) ≡ valuesOf (range Kind.Plain b) (valueOf w) n ⌝ }
@@ -55,7 +56,8 @@ fn decode_plain(out: &mut [u8; 72], w: Block, b: usize, n: usize)
     sequence_groups::clear(out, n);
 }
 
-// The same by a number of bits that each arm knows: its shifts are by constants then, which are fewer instructions.
+// Puts the n values of the sequence w. Each arm knows the number of bits, so that its shifts are by
+// constants, which are fewer instructions.
 pub fn decode_plain_by(out: &mut [u8; 72], w: Block, b: usize, n: usize)
     requires { ⌜ (now out ≡ replicate 72 0) × (b ≤ 8) × (n ≤ 64) ⌝ }
     ensures { λ _. ⌜ now (out .exit) ≡ valuesOf (range Kind.Plain b) (valueOf w) n ⌝ }

@@ -1,4 +1,5 @@
-// The ranges of integer sequences: how their values are packed, the bits that a sequence takes, and the tables of trits and quints.
+// The ranges of integer sequences: how their values are packed, the bits that a sequence takes, and
+// the tables of trits and quints.
 ghost use mathlib.Core.Path.{_≡_};
 ghost use Prim.Native.Nat.{_≤_, _<_};
 ghost use Rattle.footprint.specs.Footprints.{mostWeights};
@@ -10,7 +11,8 @@ mod tables;
 use tables::QUINTS_TABLE;
 use tables::TRITS_TABLE;
 
-// How the values of a range are packed: each in its own bits alone, or five with their trits, or three with their quints.
+// How the values of a range are packed: each in its own bits alone, or five with their trits, or
+// three with their quints.
 pub enum Kind {
     Plain,
     Trits,
@@ -23,14 +25,16 @@ pub struct Range {
     pub bits: usize,
 }
 
-// Entry t has the five trits that the byte t packs, three bits each. Made once, and lent.
+// The table whose entry t has the five trits that the byte t packs, three bits each. It is made
+// once a call and lent.
 pub fn trits() -> [u16; 256]
     ensures { λ r. ⌜ r ≡ tritTable ⌝ }
 {
     TRITS_TABLE
 }
 
-// Entry q has the three quints that the seven bits q pack, three bits each. Made once, and lent.
+// The table whose entry q has the three quints that the seven bits q pack, three bits each. It is
+// made once a call and lent.
 pub fn quints() -> [u16; 128]
     ensures { λ r. ⌜ r ≡ quintTable ⌝ }
 {

@@ -1,4 +1,5 @@
-// The values of an integer sequence, which is given as one number: with trits or with quints, group after group, or plain.
+// The values of an integer sequence, which is given as one number: with trits or with quints, group
+// after group, or plain.
 ghost use mathlib.Core.Path.{_≡_};
 ghost use Prim.Native.Nat.{_≤_};
 ghost use lib.ListN.{replicate};
@@ -10,7 +11,7 @@ use bits::Block;
 use sequence_ranges::Kind;
 use sequence_ranges::Range;
 
-// The n values of the sequence w, five at a time.
+// Puts the n values of the sequence w with their trits, five at a time.
 fn decode_trits(out: &mut [u8; 72], trits: &[u16; 256], w: Block, b: usize, n: usize)
     requires { ⌜ (now out ≡ replicate 72 0) × (now trits ≡ tritTable) × (b ≤ 6) × (n ≤ 64) ⌝ }
     ensures { λ _. ⌜ now (out .exit) ≡ valuesOf (range Kind.Trits b) (valueOf w) n ⌝ }
@@ -25,7 +26,7 @@ fn decode_trits(out: &mut [u8; 72], trits: &[u16; 256], w: Block, b: usize, n: u
     sequence_groups::clear(out, n);
 }
 
-// The n values of the sequence w, three at a time.
+// Puts the n values of the sequence w with their quints, three at a time.
 fn decode_quints(out: &mut [u8; 72], quints: &[u16; 128], w: Block, b: usize, n: usize)
     requires { ⌜ (now out ≡ replicate 72 0) × (now quints ≡ quintTable) × (b ≤ 5) × (n ≤ 64) ⌝ }
     ensures { λ _. ⌜ now (out .exit) ≡ valuesOf (range Kind.Quints b) (valueOf w) n ⌝ }
@@ -40,7 +41,8 @@ fn decode_quints(out: &mut [u8; 72], quints: &[u16; 128], w: Block, b: usize, n:
     sequence_groups::clear(out, n);
 }
 
-// The values with trits, by a number of bits that each arm knows: its shifts are by constants then, which are fewer instructions.
+// Puts the values with trits. Each arm knows the number of bits, so that its shifts are by
+// constants, which are fewer instructions.
 fn decode_trits_by(out: &mut [u8; 72], trits: &[u16; 256], w: Block, b: usize, n: usize)
     requires { ⌜ (now out ≡ replicate 72 0) × (now trits ≡ tritTable) × (b ≤ 6) × (n ≤ 64) ⌝ }
     ensures { λ _. ⌜ now (out .exit) ≡ valuesOf (range Kind.Trits b) (valueOf w) n ⌝ }
@@ -56,7 +58,7 @@ fn decode_trits_by(out: &mut [u8; 72], trits: &[u16; 256], w: Block, b: usize, n
     }
 }
 
-// The values with quints, by a number of bits that each arm knows.
+// Puts the values with quints. Each arm knows the number of bits.
 fn decode_quints_by(out: &mut [u8; 72], quints: &[u16; 128], w: Block, b: usize, n: usize)
     requires { ⌜ (now out ≡ replicate 72 0) × (now quints ≡ quintTable) × (b ≤ 5) × (n ≤ 64) ⌝ }
     ensures { λ _. ⌜ now (out .exit) ≡ valuesOf (range Kind.Quints b) (valueOf w) n ⌝ }
@@ -71,7 +73,7 @@ fn decode_quints_by(out: &mut [u8; 72], quints: &[u16; 128], w: Block, b: usize,
     }
 }
 
-// The n values of the sequence w, put into out, which is all 0.
+// Puts the n values of the sequence w, of any range, into out, which is all 0.
 pub fn decode(
     out: &mut [u8; 72],
     trits: &[u16; 256],

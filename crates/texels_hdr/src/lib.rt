@@ -20,7 +20,7 @@ use texels::either;
 use texels::hdr_channel;
 use texels::starts_of;
 
-// A number of each partition.
+// One number for each of four partitions.
 pub struct Four {
     pub a: u16,
     pub b: u16,
@@ -34,7 +34,7 @@ pub struct Numbers {
     pub second: Four,
 }
 
-// The numbers of all four channels.
+// The numbers of red, green, blue and alpha in each partition.
 pub struct Channels {
     pub r: Numbers,
     pub g: Numbers,
@@ -42,14 +42,14 @@ pub struct Channels {
     pub a: Numbers,
 }
 
-// A cast in a function of its own: its caller need not show that the number fits.
+// A cast in a function of its own, so that its caller need not show that the number fits.
 fn u16_of(x: u8) -> u16
     ensures { λ r. ⌜ (r ≡ x) × (r < 256) ⌝ }
 {
     x as u16
 }
 
-// One HDR channel of the texels of one partition; the weights start at x.
+// Puts one HDR channel of n texels that are all of one partition. Their weights start at x.
 fn hdr_one(out: &mut [u8; TEXELS], n: usize, w: &[u8; WEIGHTS], x: usize, v0: u16, v1: u16)
     requires { ⌜ (n ≤ mostTexels) × (x ≤ mostTexels) × (v0 < 4096) × (v1 < 4096) ⌝ }
     requires { ⌜ ((i : ℕ) → getD (now w) i 0 ≤ 64) ⌝ }
@@ -65,7 +65,8 @@ fn hdr_one(out: &mut [u8; TEXELS], n: usize, w: &[u8; WEIGHTS], x: usize, v0: u1
     }
 }
 
-// The same where both endpoints have the number v, which no weight changes: the alpha of an opaque colour.
+// Puts one HDR channel of n texels where both endpoints have the number v. No weight changes it
+// then: it is the alpha of an opaque colour.
 fn hdr_flat(out: &mut [u8; TEXELS], n: usize, v: u16)
     requires { ⌜ (n ≤ mostTexels) × (v < 4096) ⌝ }
     ensures { λ _. ⌜ now (out .exit) ≡
@@ -80,7 +81,8 @@ fn hdr_flat(out: &mut [u8; TEXELS], n: usize, v: u16)
     }
 }
 
-// The same of two partitions: a and b have the numbers of each. They are read before the loop, which would read them anew after each store.
+// Puts one HDR channel of n texels of two partitions, whose endpoints are in a and b. These are
+// read before the loop, which would read them anew after each store.
 fn hdr_two(
     out: &mut [u8; TEXELS],
     n: usize,
@@ -110,7 +112,7 @@ fn hdr_two(
     }
 }
 
-// The same of any partitions.
+// Puts one HDR channel of n texels of up to four partitions.
 fn hdr_four(
     out: &mut [u8; TEXELS],
     n: usize,
@@ -144,7 +146,8 @@ fn hdr_four(
     }
 }
 
-// One HDR channel of the texels of one partition.
+// Puts one HDR channel of n texels of one partition, by the loop for equal endpoints or the one for
+// any.
 fn hdr_single(out: &mut [u8; TEXELS], n: usize, w: &[u8; WEIGHTS], x: usize, v0: u16, v1: u16)
     requires { ⌜ (n ≤ mostTexels) × (x ≤ mostTexels) × (v0 < 4096) × (v1 < 4096) ⌝ }
     requires { ⌜ ((i : ℕ) → getD (now w) i 0 ≤ 64) ⌝ }
@@ -158,7 +161,7 @@ fn hdr_single(out: &mut [u8; TEXELS], n: usize, w: &[u8; WEIGHTS], x: usize, v0:
     hdr_one(out, n, w, x, v0, v1);
 }
 
-// One HDR channel of the texels, by its numbers in the partitions in use.
+// Puts one HDR channel of n texels, by its numbers in the partitions in use.
 fn hdr_bytes<'a>(
     out: &mut [u8; TEXELS],
     n: usize,
@@ -185,7 +188,7 @@ fn hdr_bytes<'a>(
     }
 }
 
-// The numbers of each channel, of the partitions' endpoints.
+// The numbers of each channel in the endpoints of four partitions.
 fn channels_of(e: Endpoints, f: Endpoints, g: Endpoints, h: Endpoints) -> Channels
     ensures { λ v. ⌜ v ≡ channels e f g h ⌝ }
 {
@@ -249,14 +252,14 @@ fn channels_of(e: Endpoints, f: Endpoints, g: Endpoints, h: Endpoints) -> Channe
     }
 }
 
-// A lane: two channels.
+// A lane of two channels, the first of them the low byte.
 fn joined(low: u8, high: u8) -> u16
     ensures { λ r. ⌜ (r ≡ low + 256 * high) × (low < 256) × (high < 256) ⌝ }
 {
     u16_of(low) + 256 * u16_of(high)
 }
 
-// The words of four channels.
+// Puts the words of n texels from their four channels.
 fn join_all<'a>(
     out: &mut [u16; LANES],
     n: usize,
@@ -279,7 +282,7 @@ fn join_all<'a>(
     }
 }
 
-// HDR texels: one channel after the other, so that a loop has one kind of work.
+// Puts the words of n HDR texels, one channel after the other, so that a loop has one kind of work.
 pub fn paint_hdr<'a>(
     out: &mut [u16; LANES],
     n: usize,

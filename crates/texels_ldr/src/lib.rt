@@ -29,7 +29,7 @@ pub struct Weights {
     pub a: u16,
 }
 
-// A cast in a function of its own: its caller need not show that the number fits.
+// A cast in a function of its own, so that its caller need not show that the number fits.
 fn u16_of(x: u8) -> u16
     ensures { λ r. ⌜ (r ≡ x) × (r < 256) ⌝ }
 {
@@ -48,7 +48,7 @@ fn weights_at(w: &[u8; WEIGHTS], k: Starts, i: usize) -> Weights
     }
 }
 
-// A lane: two LDR channels.
+// A lane of two blended LDR channels, the first of them the low byte.
 fn pair(x0: u16, x1: u16, y0: u16, y1: u16, v: u16, w: u16) -> u16
     requires { ⌜ (x0 ≤ 255) × (x1 ≤ 255) × (y0 ≤ 255) × (y1 ≤ 255) × (v ≤ 64) × (w ≤ 64) ⌝ }
     ensures { λ r. ⌜ r ≡ ldrPair x0 x1 y0 y1 v w ⌝ }
@@ -56,7 +56,7 @@ fn pair(x0: u16, x1: u16, y0: u16, y1: u16, v: u16, w: u16) -> u16
     blend::select_color_byte(x0, x1, v) + 256 * blend::select_color_byte(y0, y1, w)
 }
 
-// LDR texels of one partition and one plane.
+// Puts the words of n LDR texels of one partition and one plane.
 fn paint_one(out: &mut [u16; LANES], n: usize, w: &[u8; WEIGHTS], e: Endpoints)
     requires { ⌜ (n ≤ mostTexels) × Plain e ⌝ ∗ ⌜ ((i : ℕ) → getD (now w) i 0 ≤ 64) ⌝ }
     ensures { λ _. ⌜ now (out .exit) ≡
@@ -72,7 +72,7 @@ fn paint_one(out: &mut [u16; LANES], n: usize, w: &[u8; WEIGHTS], e: Endpoints)
     }
 }
 
-// The same where each channel has the weights of its plane.
+// Puts the words of n LDR texels of one partition, each channel by the weights of its plane.
 fn paint_planes(out: &mut [u16; LANES], n: usize, w: &[u8; WEIGHTS], k: Starts, e: Endpoints)
     requires { ⌜ (n ≤ mostTexels) × Ahead k × Plain e ⌝ ∗ ⌜ ((i : ℕ) → getD (now w) i 0 ≤ 64) ⌝ }
     ensures { λ _. ⌜ now (out .exit) ≡
@@ -88,7 +88,7 @@ fn paint_planes(out: &mut [u16; LANES], n: usize, w: &[u8; WEIGHTS], k: Starts, 
     }
 }
 
-// Of two partitions' LDR endpoints, those of p.
+// The LDR endpoints of partition p, where partition 0 has a and partition 1 has b.
 fn either_of(p: u8, a: Endpoints, b: Endpoints) -> Endpoints
     requires { ⌜ Plain (eitherOf p a b) ⌝ }
     ensures { λ r. ⌜ r ≡ eitherOf p a b ⌝ }
@@ -107,7 +107,7 @@ fn either_of(p: u8, a: Endpoints, b: Endpoints) -> Endpoints
     }
 }
 
-// LDR texels of two partitions and one plane.
+// Puts the words of n LDR texels of two partitions and one plane.
 fn paint_two(
     out: &mut [u16; LANES],
     n: usize,
@@ -133,7 +133,7 @@ fn paint_two(
     }
 }
 
-// Of four partitions' LDR endpoints, those of p.
+// The LDR endpoints of partition p, where the partitions 0 to 3 have a, b, c and d.
 fn any_of(p: u8, a: Endpoints, b: Endpoints, c: Endpoints, d: Endpoints) -> Endpoints
     requires { ⌜ (p < 4) × Plain (anyOf p a b c d nothing) ⌝ }
     ensures { λ r. ⌜ r ≡ anyOf p a b c d nothing ⌝ }
@@ -152,7 +152,8 @@ fn any_of(p: u8, a: Endpoints, b: Endpoints, c: Endpoints, d: Endpoints) -> Endp
     }
 }
 
-// LDR texels of any partitions and planes.
+// Puts the words of n LDR texels of up to four partitions, each channel by the weights of its
+// plane.
 fn paint_four(
     out: &mut [u16; LANES],
     n: usize,
@@ -185,7 +186,7 @@ fn paint_four(
     }
 }
 
-// LDR texels, by the fewest partitions and planes that do.
+// Puts the words of n LDR texels, by the loop for as few partitions and planes as the block has.
 pub fn paint_ldr<'a>(
     out: &mut [u16; LANES],
     n: usize,

@@ -1,4 +1,5 @@
-// The channels of texels as C reads them: four numbers a texel, and a byte that says which of them are floats.
+// The channels of texels as C reads them: four numbers a texel, and a byte that says which of them
+// are floats.
 ghost use mathlib.Core.Path.{_≡_};
 ghost use Prim.Native.Nat.{ℕ, _+_, _*_, _≤_, _<_};
 ghost use lib.ListN.{length};
@@ -86,8 +87,8 @@ fn put_four(out: &mut [u32], i: usize, k: Four)
     out[4 * i + 3] = k.a;
 }
 
-// Puts the numbers of n texels, from the lanes of a block. They are worked out in the loop and not by `four_of`, which
-// makes HDR blocks slower.
+// Puts the numbers of n texels, from the lanes of a block. They are worked out in the loop and not
+// by `four_of`, which makes HDR blocks slower.
 fn put_numbers(out: &mut [u32], n: usize, lanes: &[u16; LANES])
     requires { ⌜ (n ≤ mostTexels) × (4 * n ≤ length (now out)) ⌝ }
     ensures { λ _. ⌜ now (out .exit) ≡

@@ -50,8 +50,9 @@ fn common_kind(parts: usize, ends: [Endpoints; 4]) -> u8
     k
 }
 
-// The words of n texels, to the next multiple of 8, in lanes: lane 2 * i has the low 16 bits of texel i, lane 2 * i + 1 the high ones.
-// w has the weights of both planes, map each texel's partition.
+// Puts the words of n texels, to the next multiple of 8, into lanes: lane 2 * i has the low 16 bits
+// of texel i, lane 2 * i + 1 the high ones. w has the weights of both planes, partitions the
+// partition of each texel.
 pub fn applicate_color<'a>(
     out: &mut [u16; LANES],
     n: usize,

@@ -18,7 +18,7 @@ use lanes::eights;
 use texels::Starts;
 use texels::hdr_channel;
 
-// A cast in a function of its own: its caller need not show that the number fits.
+// A cast in a function of its own, so that its caller need not show that the number fits.
 fn u16_of(x: u8) -> u16
     ensures { λ r. ⌜ (r ≡ x) × (r < 256) ⌝ }
 {
@@ -31,7 +31,7 @@ fn place(x: u8) -> usize
     x as usize
 }
 
-// One channel by its mark.
+// One channel of a texel, blended as LDR or HDR by its mark.
 fn channel_by(m: Mark, v0: u16, v1: u16, w: u8) -> u8
     requires { ⌜ (v0 < limit m) × (v1 < limit m) × (w ≤ 64) ⌝ }
     ensures { λ r. ⌜ r ≡ channelBy m v0 v1 w ⌝ }
@@ -42,7 +42,7 @@ fn channel_by(m: Mark, v0: u16, v1: u16, w: u8) -> u8
     }
 }
 
-// A texel's word.
+// The word of a texel, from the endpoints of its partition and the weight of each channel.
 fn texel(e: Endpoints, r: u8, g: u8, b: u8, a: u8) -> u32
     requires { ⌜ InLimits e × (r ≤ 64) × (g ≤ 64) × (b ≤ 64) × (a ≤ 64) ⌝ }
     ensures { λ x. ⌜ x ≡ wordBy e r g b a ⌝ }
@@ -69,7 +69,7 @@ fn high(x: u32) -> u16
     (x / 65536) as u16
 }
 
-// Each texel by the marks of its partition.
+// Puts the words of n texels, each by the marks of its partition.
 pub(crate) fn paint_any(
     out: &mut [u16; LANES],
     n: usize,

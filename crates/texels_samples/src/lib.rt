@@ -24,7 +24,7 @@ pub struct Pair {
     pub second: u16,
 }
 
-// The same in each partition.
+// One channel's ends in each of four partitions.
 pub struct Pairs {
     pub a: Pair,
     pub b: Pair,
@@ -32,7 +32,7 @@ pub struct Pairs {
     pub d: Pair,
 }
 
-// A cast in a function of its own: its caller need not show that the number fits.
+// A cast in a function of its own, so that its caller need not show that the number fits.
 fn u16_of(x: u8) -> u16
     ensures { λ r. ⌜ (r ≡ x) × (r < 256) ⌝ }
 {
@@ -57,7 +57,8 @@ fn sample(hdr: u16, v0: u16, v1: u16, w: u8) -> u16
     }
 }
 
-// One channel of the texels of one partition, from lane `at` on; its weights start at x.
+// Puts one channel of n texels that are all of one partition, from lane `at` on. Its weights start
+// at x.
 fn put_one(out: &mut [u16; LANES], at: usize, n: usize, w: &[u8; WEIGHTS], x: usize, e: Pair)
     requires { ⌜ (at ≤ 432) × (n ≤ mostTexels) × (x ≤ mostTexels) × (e .first < limitBy (e .hdr)) ×
         (e .second < limitBy (e .hdr)) ⌝ }
@@ -76,7 +77,8 @@ fn put_one(out: &mut [u16; LANES], at: usize, n: usize, w: &[u8; WEIGHTS], x: us
     }
 }
 
-// The same of any partitions. Their numbers are read before the loop, which would read them anew after each store.
+// Puts one channel of n texels of up to four partitions, from lane `at` on. The ends are read
+// before the loop, which would read them anew after each store.
 fn put_any(
     out: &mut [u16; LANES],
     at: usize,
@@ -123,7 +125,7 @@ fn put_any(
     }
 }
 
-// One channel of the texels.
+// Puts one channel of n texels, from lane `at` on.
 fn put_channel<'a>(
     out: &mut [u16; LANES],
     at: usize,
@@ -157,7 +159,7 @@ fn hdr_of(m: Mark) -> u16
     }
 }
 
-// The ends of channel k, of 0 to 3 for red to alpha.
+// The ends of channel k of a partition, 0 to 3 for red to alpha.
 fn pair_of(e: Endpoints, k: usize) -> Pair
     requires { ⌜ k < 4 ⌝ }
     ensures { λ r. ⌜ r ≡ pairOf e k ⌝ }
@@ -203,8 +205,8 @@ fn pairs_of(ends: [Endpoints; 4], k: usize) -> Pairs
     }
 }
 
-// The samples of n texels, to the next multiple of 8, in lanes: those of channel k start at lane 144 * k.
-// w has the weights of both planes, map each texel's partition.
+// Puts the samples of n texels, to the next multiple of 8, into lanes: those of channel k start at
+// lane 144 * k. w has the weights of both planes, partitions the partition of each texel.
 pub fn put_samples<'a>(
     out: &mut [u16; LANES],
     n: usize,

@@ -25,7 +25,8 @@ fn is_wide(g: Grid) -> bool
     false
 }
 
-// A grid as wide as the footprint needs no columns, and one that is the footprint no infill.
+// Puts the weights of a grid that has one plane and is as wide as its footprint: if it is also as
+// high its values are the weights, and else texels lie between rows alone.
 fn decode_wide(out: &mut [u8; WEIGHTS], g: Grid, n: usize, q: usize, seq: &[u8; 72])
     requires { ⌜ (WeightsGiven g q (now seq) (now out)) × (n ≡ countOf g) × (g .planes ≡ 1) ×
         (g .width ≡ g .footprint .width) ⌝ }
@@ -54,7 +55,8 @@ fn is_whole(g: Grid) -> bool
     false
 }
 
-// Tells the weights of two planes apart, which stand in turns: those of n texels, and on to the next multiple of 8.
+// Tells apart the weights of two planes, which alternate in wv: those of n texels, and on to the
+// next multiple of 8.
 fn part_planes(out: &mut [u8; WEIGHTS], n: usize, wv: &[u8; WEIGHTS])
     requires { ⌜ (n ≤ mostTexels) × (now out ≡ replicate mostWeights 0) ⌝ }
     ensures { λ _. ⌜ now (out .exit) ≡
@@ -69,7 +71,8 @@ fn part_planes(out: &mut [u8; WEIGHTS], n: usize, wv: &[u8; WEIGHTS])
     }
 }
 
-// A grid of two planes that is the footprint needs no infill.
+// Puts the weights of a grid of two planes that is as large as its footprint: its values are the
+// weights.
 fn decode_planes(out: &mut [u8; WEIGHTS], g: Grid, n: usize, q: usize, seq: &[u8; 72])
     requires { ⌜ (WeightsGiven g q (now seq) (now out)) × (n ≡ countOf g) × (g .planes ≡ 2) ×
         (g .width ≡ g .footprint .width) × (g .height ≡ g .footprint .height) ⌝ }
@@ -80,7 +83,7 @@ fn decode_planes(out: &mut [u8; WEIGHTS], g: Grid, n: usize, q: usize, seq: &[u8
     part_planes(out, n / 2, &wv);
 }
 
-// Any grid.
+// Puts the weights of any other grid, by infill.
 fn decode_any(out: &mut [u8; WEIGHTS], g: Grid, n: usize, q: usize, seq: &[u8; 72])
     requires { ⌜ (WeightsGiven g q (now seq) (now out)) × (n ≡ countOf g) ⌝ }
     ensures { λ _. ⌜ now (out .exit) ≡ weightsOf g q (now (seq .entry)) ⌝ }
@@ -90,8 +93,8 @@ fn decode_any(out: &mut [u8; WEIGHTS], g: Grid, n: usize, q: usize, seq: &[u8; 7
     weights_infill::infill(out, g, n, &wv);
 }
 
-// Puts the weights of the texels into out, the first plane's from 0 on, the second's from TEXELS on; seq has the
-// grid's encoded weights, of range q.
+// Puts the weights of the texels into out, the first plane's from 0 on, the second's from TEXELS
+// on; seq has the grid's encoded weights, of range q.
 pub fn decode_weights(out: &mut [u8; WEIGHTS], g: Grid, q: usize, seq: &[u8; 72])
     requires { ⌜ WeightsGiven g q (now seq) (now out) ⌝ }
     ensures { λ _. ⌜ now (out .exit) ≡ weightsOf g q (now (seq .entry)) ⌝ }

@@ -1,4 +1,5 @@
-// How a grid of weights lies in its footprint: where its texels stand between the points of the grid.
+// How a grid of weights lies in its footprint: where its texels stand between the points of the
+// grid.
 ghost use mathlib.Core.Path.{_≡_};
 ghost use mathlib.Core.Bool.{true};
 ghost use Prim.Native.Nat.{_+_, _*_, _/_, _≤_, _<_};
@@ -14,7 +15,7 @@ pub struct Grid {
     pub planes: usize,
 }
 
-// The step of a side of n texels.
+// The step from texel to texel along a side of n texels: 1024 units, divided among the n - 1 steps.
 pub fn step_of(n: usize) -> u16
     requires { ⌜ isSide n ≡ true ⌝ }
     ensures { λ r. ⌜ (r ≡ stepOf n) × (r ≤ 342) ⌝ }

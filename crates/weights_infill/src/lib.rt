@@ -12,7 +12,7 @@ use footprint::TEXELS;
 use footprint::WEIGHTS;
 use weights_grid::Grid;
 
-// A cast in a function of its own: its caller need not show that a byte fits.
+// A cast in a function of its own, so that its caller need not show that the number fits.
 fn u16_of(x: u8) -> u16
     ensures { λ r. ⌜ (r ≡ x) × (r < 256) ⌝ }
 {
@@ -25,7 +25,8 @@ fn usize_of(x: u16) -> usize
     x as usize
 }
 
-// The place left of each column in the grid, and the sixteenths beyond it.
+// Puts, for each column of the footprint, the place in a grid row of the point to its left, and how
+// many sixteenths the column lies beyond that point.
 fn columns(at: &mut [u16; 16], part: &mut [u16; 16], g: Grid)
     requires { ⌜ Fits g ⌝ }
     ensures { λ _. ⌜ now (at .exit) ≡
@@ -48,7 +49,8 @@ fn columns(at: &mut [u16; 16], part: &mut [u16; 16], g: Grid)
     }
 }
 
-// Each weight of a grid and the next of its plane, as two bytes of a number.
+// Puts, for each weight of a grid, that weight and the next of its plane as the two bytes of a
+// number.
 fn neighbours(out: &mut [u16; 72], n: usize, planes: usize, wv: &[u8; WEIGHTS])
     requires { ⌜ (n ≤ 64) × (planes ≤ 2) ⌝ }
     ensures { λ _. ⌜ now (out .exit) ≡
@@ -62,7 +64,8 @@ fn neighbours(out: &mut [u16; 72], n: usize, planes: usize, wv: &[u8; WEIGHTS])
     }
 }
 
-// One grid row, which starts at k, at the footprint's columns.
+// Puts the pairs of the grid row that starts at k, one for each column of the footprint, to out[o
+// .. o + width].
 fn spread_row(
     out: &mut [u16; 208],
     o: usize,
@@ -84,7 +87,7 @@ fn spread_row(
     }
 }
 
-// Each grid row at the footprint's columns.
+// Puts the pairs of every grid row, one for each column of the footprint; row j starts at 16 * j.
 fn spread(out: &mut [u16; 208], g: Grid, at: &[u16; 16], next: &[u16; 72], plane: usize)
     requires { ⌜ (Fits g) × (plane < g .planes) × (now out ≡ replicate 208 0) ⌝ }
     requires { ⌜ ((s : ℕ) → s < g .footprint .width → getD (now at) s 0 ≡
@@ -113,7 +116,8 @@ fn mixed(a: u16, b: u16, f: u16, h: u16) -> u8
     ((a % 256 * w00 + a / 256 * w01 + b % 256 * w10 + b / 256 * w11 + 8) / 16) as u8
 }
 
-// Puts m texels of a row at o. Past the footprint it puts 0 where 0 is.
+// Puts the weights of m texels of a row to out[o .. o + m]. Lanes past the last column write 0,
+// which out already holds.
 fn fill_row(
     out: &mut [u8; WEIGHTS],
     o: usize,
@@ -135,7 +139,8 @@ fn fill_row(
     }
 }
 
-// The rows of the footprint, each between two spread rows. A row may run past its end: the next one overwrites that.
+// The rows of the footprint, each between two spread rows. A row may run past its end: the next one
+// overwrites that.
 fn fill_rows(out: &mut [u8; WEIGHTS], g: Grid, pairs: &[u16; 208], part: &[u16; 16])
     requires { ⌜ (Fits g) × (now out ≡ replicate mostWeights 0) ⌝ }
     requires { ⌜ ((s : ℕ) → getD (now part) s 0 < 16) ⌝ }
@@ -156,7 +161,7 @@ fn fill_rows(out: &mut [u8; WEIGHTS], g: Grid, pairs: &[u16; 208], part: &[u16; 
     }
 }
 
-// One plane's weights of all texels.
+// Puts the weights of all texels in one plane.
 fn fill_plane(out: &mut [u8; WEIGHTS], g: Grid, next: &[u16; 72], plane: usize)
     requires { ⌜ (Fits g) × (plane < g .planes) × (now out ≡ replicate mostWeights 0) ×
         (Pairs g (now next)) ⌝ }
@@ -170,7 +175,7 @@ fn fill_plane(out: &mut [u8; WEIGHTS], g: Grid, next: &[u16; 72], plane: usize)
     fill_rows(out, g, &pairs, &part);
 }
 
-// The second plane's weights stand from TEXELS on.
+// Copies the weights of the second plane's n texels to out[TEXELS .. TEXELS + n].
 fn put_second(out: &mut [u8; WEIGHTS], n: usize, plane: &[u8; WEIGHTS])
     requires { ⌜ n ≤ mostTexels ⌝ }
     ensures { λ _. ⌜ now (out .exit) ≡
@@ -183,7 +188,7 @@ fn put_second(out: &mut [u8; WEIGHTS], n: usize, plane: &[u8; WEIGHTS])
     }
 }
 
-// All weights from those of the grid.
+// Puts the weights of all texels, in one or two planes, from those of the grid.
 pub fn infill(out: &mut [u8; WEIGHTS], g: Grid, n: usize, wv: &[u8; WEIGHTS])
     requires { ⌜ (Fits g) × (n ≡ countOf g) × (now out ≡ replicate mostWeights 0) ⌝ }
     requires { ⌜ ((k : ℕ) → countOf g ≤ k → getD (now wv) k 0 ≡ 0) ⌝ }

@@ -1,4 +1,5 @@
-// The weights of a footprint's texels where the grid has one plane and is as wide as the footprint: a texel lies between two rows alone.
+// The weights of a footprint's texels where the grid has one plane and is as wide as the footprint:
+// a texel lies between two rows alone.
 ghost use mathlib.Core.Path.{_≡_};
 ghost use Prim.Native.Nat.{ℕ, _+_, _*_, _/_, _%_, _≤_, _<_};
 ghost use lib.ListN.{getD, replicate};
@@ -10,7 +11,7 @@ ghost use Rattle.footprint.specs.Footprints.{mostWeights};
 use footprint::WEIGHTS;
 use weights_grid::Grid;
 
-// A cast in a function of its own: its caller need not show that a byte fits.
+// A cast in a function of its own, so that its caller need not show that the number fits.
 fn u16_of(x: u8) -> u16
     ensures { λ r. ⌜ (r ≡ x) × (r < 256) ⌝ }
 {
@@ -23,7 +24,7 @@ fn usize_of(x: u16) -> usize
     x as usize
 }
 
-// 1 for each column of the footprint, and 0 past it.
+// Puts 1 for each column of the footprint, and 0 past the last.
 fn inside(keep: &mut [u16; 16], width: usize)
     requires { ⌜ width ≤ 16 ⌝ }
     ensures { λ _. ⌜ now (keep .exit) ≡ put (λ (s : ℕ). 1) 0 width (now (keep .entry)) ⌝ }
@@ -43,7 +44,8 @@ fn down(a: u8, b: u8, h: u16) -> u16
     (u16_of(a) * (16 - h) + u16_of(b) * h + 8) / 16
 }
 
-// As fill_row, where the columns are the grid's.
+// Puts the weights of m texels of a row whose columns are the grid's. Lanes past the last column
+// write 0.
 fn fill_row_whole(
     out: &mut [u8; WEIGHTS],
     o: usize,
@@ -67,7 +69,7 @@ fn fill_row_whole(
     }
 }
 
-// The one plane's weights of all texels, where the grid is as wide as the footprint.
+// Puts the weights of all texels in the one plane of a grid that is as wide as its footprint.
 pub fn fill_down(out: &mut [u8; WEIGHTS], g: Grid, wv: &[u8; WEIGHTS])
     requires { ⌜ (Fits g) × (g .planes ≡ 1) × (g .width ≡ g .footprint .width) ×
         (now out ≡ replicate mostWeights 0) ⌝ }

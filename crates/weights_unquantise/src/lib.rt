@@ -7,14 +7,14 @@ ghost use Rattle.weights_unquantise.specs.Forms.{each, plainOf, sumOf, t
 ghost use Rattle.sequence_ranges.specs.Ranges.{rangeOf, levels};
 use footprint::WEIGHTS;
 
-// A cast in a function of its own: its caller need not show that a byte fits.
+// A cast in a function of its own, so that its caller need not show that the number fits.
 fn u16_of(x: u8) -> u16
     ensures { λ r. ⌜ (r ≡ x) × (r < 256) ⌝ }
 {
     x as u16
 }
 
-// What is above 32 is one more.
+// Adds one to a number above 32, so that weights reach 64.
 fn raise(x: u16) -> u8
     requires { ⌜ x < 64 ⌝ }
     ensures { λ r. ⌜ r ≡ raised x ⌝ }
@@ -22,7 +22,7 @@ fn raise(x: u16) -> u8
     if x < 33 { x as u8 } else { (x + 1) as u8 }
 }
 
-// The lowest bit of a value turns the seven bits of t over.
+// Turns over the seven bits of t where `odd`, the lowest bit of a value, is 1.
 fn turn(odd: u16, t: u16) -> u16
     requires { ⌜ t ≤ 127 ⌝ }
     ensures { λ r. ⌜ (r ≡ turned odd t) × (r < 64) ⌝ }
@@ -30,7 +30,8 @@ fn turn(odd: u16, t: u16) -> u16
     if odd == 0 { t / 4 } else { 32 + (127 - t) / 4 }
 }
 
-// Values of plain bits: repeating the bits is a product, and what is over beside it.
+// Puts the weights of values of plain bits: their repetition to six bits is a product and what is
+// left over beside it.
 fn plain_all(out: &mut [u8; WEIGHTS], n: usize, by: u16, over: u16, seq: &[u8; 72])
     requires { ⌜ (n ≤ 64) × (by ≤ 63) × (over ≤ 8) ⌝ }
     ensures { λ _. ⌜ now (out .exit) ≡
@@ -45,7 +46,7 @@ fn plain_all(out: &mut [u8; WEIGHTS], n: usize, by: u16, over: u16, seq: &[u8; 7
     }
 }
 
-// Trits or quints alone.
+// Puts the weights of values that are a trit or a quint alone.
 fn digit_all(out: &mut [u8; WEIGHTS], n: usize, by: u8, seq: &[u8; 72])
     requires { ⌜ (n ≤ 64) × ((k : ℕ) → getD (now seq) k 0 * by < 256) ⌝ }
     ensures { λ _. ⌜ now (out .exit) ≡
@@ -59,7 +60,7 @@ fn digit_all(out: &mut [u8; WEIGHTS], n: usize, by: u8, seq: &[u8; 72])
     }
 }
 
-// The digit of v times c, and its bits above the lowest times by.
+// The digit of v times c, plus the bits of v above the lowest times `by`.
 fn sum(v: u16, bits: u16, c: u16, by: u16) -> u16
     requires { ⌜ (bits ≤ 3) × (sumOf bits c by v ≤ 127) ⌝ }
     ensures { λ r. ⌜ (r ≡ sumOf bits c by v) × (r ≤ 127) ⌝ }
@@ -67,7 +68,8 @@ fn sum(v: u16, bits: u16, c: u16, by: u16) -> u16
     (v >> bits) * c + v % (1 << bits) / 2 * by
 }
 
-// Trits or quints with bits. The product with by puts the bits above the lowest where the standard's pattern has them.
+// Puts the weights of values of trits or quints with bits. The product with `by` puts the bits
+// above the lowest where the standard's pattern has them.
 fn mixed_all(out: &mut [u8; WEIGHTS], n: usize, bits: u16, c: u16, by: u16, seq: &[u8; 72])
     requires { ⌜ (n ≤ 64) × (bits ≤ 3) × ((k : ℕ) → sumOf bits c by (getD (now seq) k 0) ≤ 127) ⌝ }
     ensures { λ _. ⌜ now (out .exit) ≡
@@ -82,7 +84,7 @@ fn mixed_all(out: &mut [u8; WEIGHTS], n: usize, bits: u16, c: u16, by: u16, seq:
     }
 }
 
-// The encoded values of range q, each as the weight that it stands for.
+// Puts the weight that each of n encoded values of range q stands for.
 pub fn unquantize(out: &mut [u8; WEIGHTS], n: usize, q: usize, seq: &[u8; 72])
     requires { ⌜ (n ≤ 64) × (q < 12) × ((k : ℕ) → getD (now seq) k 0 < levels (rangeOf q)) ⌝ }
     ensures { λ _. ⌜ now (out .exit) ≡ each (weightOf q) (now (seq .entry)) n (now (out .entry)) ⌝ }
