@@ -4,13 +4,15 @@
 #include <string.h>
 
 /* A legal block, a void one in one colour, and one of a reserved mode. */
-static const uint8_t DATA[48] = {
+static const uint8_t DATA[3 * ASTC_BLOCK_BYTES] = {
     0x42, 0x00, 0x00, 0xfe, 0x01, 0x00, 0x00, 0x00, 0x00, 0x00, 0x00, 0x00, 0x00, 0x00, 0x00, 0xe0,
     0xfc, 0xfd, 0xff, 0xff, 0xff, 0xff, 0xff, 0xff, 0x00, 0x00, 0x00, 0x80, 0x00, 0x40, 0xff, 0xff,
 };
 
 /* A legal block whose colour is HDR and whose alpha is not. */
-static const uint8_t HDR[16] = {0x42, 0xc0, 0xf1, 0x20, 0x01, 0x31, 0x89, 0xa1, 0x01, 0xff, 0x01, 0x00, 0x00, 0x00, 0x00, 0xc0};
+static const uint8_t HDR[ASTC_BLOCK_BYTES] = {
+    0x42, 0xc0, 0xf1, 0x20, 0x01, 0x31, 0x89, 0xa1, 0x01, 0xff, 0x01, 0x00, 0x00, 0x00, 0x00, 0xc0,
+};
 
 static void print_word(uint32_t word) {
     printf(" (%u %u %u %u)", (unsigned)(word >> 16 & 255), (unsigned)(word >> 8 & 255), (unsigned)(word & 255), (unsigned)(word >> 24));
@@ -18,15 +20,15 @@ static void print_word(uint32_t word) {
 
 static void show_block(void) {
     uint32_t words[16];
-    uint32_t map[9];
-    uint32_t answer = astc_decode_block(DATA, 16, 4, 4, words, 16);
+    uint32_t map[ASTC_MAP_NUMBERS];
+    uint32_t answer = astc_decode_block(DATA, ASTC_BLOCK_BYTES, 4, 4, words, 16);
     printf("block: answer %u, first texels", (unsigned)answer);
     print_word(words[0]);
     print_word(words[1]);
     printf("\n");
-    answer = astc_block_map(DATA, 16, 4, 4, map, 9);
-    printf("map: answer %u, largest endpoint value %u, fields", (unsigned)answer, (unsigned)map[0]);
-    for (int i = 1; i < 9; i += 2) {
+    answer = astc_block_map(DATA, ASTC_BLOCK_BYTES, 4, 4, map, ASTC_MAP_NUMBERS);
+    printf("map: answer %u, largest endpoint value %u, fields", (unsigned)answer, (unsigned)map[ASTC_MAP_LARGEST]);
+    for (int i = ASTC_MAP_LOW_START; i < ASTC_MAP_NUMBERS; i += 2) {
         printf(" %u+%u", (unsigned)map[i], (unsigned)map[i + 1]);
     }
     printf("\n");
@@ -61,11 +63,13 @@ static void show_channels(void) {
 static void show_steps(void) {
     enum { WIDTH = 10, HEIGHT = 4, PIXELS = WIDTH * HEIGHT };
     uint32_t words[PIXELS];
-    uint64_t moved[3] = {0, 0, 0};
+    uint64_t moved[ASTC_STEP_NUMBERS] = {0, 0, 0};
     do {
-        uint32_t answer = astc_image_step(DATA, sizeof DATA, WIDTH, HEIGHT, 4, 4, (size_t)moved[0], 2, words, PIXELS, moved, 3);
-        printf("step: answer %u, next %u, painted %u, bad %u\n", (unsigned)answer, (unsigned)moved[0], (unsigned)moved[1], (unsigned)moved[2]);
-    } while (moved[1] != 0);
+        size_t next = (size_t)moved[ASTC_STEP_NEXT];
+        uint32_t answer = astc_image_step(DATA, sizeof DATA, WIDTH, HEIGHT, 4, 4, next, 2, words, PIXELS, moved, ASTC_STEP_NUMBERS);
+        printf("step: answer %u, next %u, painted %u, bad %u\n", (unsigned)answer, (unsigned)moved[ASTC_STEP_NEXT],
+               (unsigned)moved[ASTC_STEP_PAINTED], (unsigned)moved[ASTC_STEP_BAD]);
+    } while (moved[ASTC_STEP_PAINTED] != 0);
     printf("first row:");
     for (int x = 0; x < WIDTH; x++) {
         print_word(words[x]);

@@ -8,7 +8,7 @@
 #include <stdlib.h>
 #include <string.h>
 
-enum { BLOCK = 16, NUMBERS = 9, CHANNELS = 4, MOVED = 3, HEAD = 3 + BLOCK, FOOTPRINTS = 14, MARK = 0x5a };
+enum { CHANNELS = 4, HEAD = 3 + ASTC_BLOCK_BYTES, FOOTPRINTS = 14, MARK = 0x5a };
 
 static const uint8_t SIDES[FOOTPRINTS][2] = {{4, 4}, {5, 4}, {5, 5}, {6, 5}, {6, 6}, {8, 5}, {8, 6}, {8, 8}, {10, 5}, {10, 6}, {10, 8}, {10, 10}, {12, 10}, {12, 12}};
 
@@ -66,9 +66,9 @@ static uint32_t word_of(const uint8_t *record, size_t texel) {
 
 static void paint_block(const uint8_t *record) {
     size_t texels = texels_of(record);
-    uint8_t *block = copy(block_of(record), BLOCK);
+    uint8_t *block = copy(block_of(record), ASTC_BLOCK_BYTES);
     uint32_t *words = fresh(4 * texels);
-    uint32_t answer = astc_decode_block(block, BLOCK, bw_of(record), bh_of(record), words, texels);
+    uint32_t answer = astc_decode_block(block, ASTC_BLOCK_BYTES, bw_of(record), bh_of(record), words, texels);
     hold(answer == answer_of(record), "the answer of a block");
     for (size_t i = 0; i < texels; i++) {
         hold(words[i] == word_of(record, i), "a word of a block");
@@ -78,13 +78,13 @@ static void paint_block(const uint8_t *record) {
 }
 
 static void map_block(const uint8_t *record) {
-    uint8_t *block = copy(block_of(record), BLOCK);
-    uint32_t *map = fresh(4 * NUMBERS);
-    uint32_t answer = astc_block_map(block, BLOCK, bw_of(record), bh_of(record), map, NUMBERS);
+    uint8_t *block = copy(block_of(record), ASTC_BLOCK_BYTES);
+    uint32_t *map = fresh(4 * ASTC_MAP_NUMBERS);
+    uint32_t answer = astc_block_map(block, ASTC_BLOCK_BYTES, bw_of(record), bh_of(record), map, ASTC_MAP_NUMBERS);
     uint32_t end = 0;
     hold(answer == answer_of(record), "the answer of a map");
     hold(map[0] <= 255, "the largest value of a map");
-    for (int i = 1; i < NUMBERS; i += 2) {
+    for (int i = 1; i < ASTC_MAP_NUMBERS; i += 2) {
         hold(end <= map[i] && map[i] + map[i + 1] <= 128, "the fields of a map");
         end = map[i] + map[i + 1];
     }
@@ -115,9 +115,9 @@ static uint32_t byte_of(uint32_t number, int is_float) {
 static void channel_block(const uint8_t *record) {
     static const int PLACES[CHANNELS] = {16, 8, 0, 24};
     size_t texels = texels_of(record);
-    uint8_t *block = copy(block_of(record), BLOCK), *floats = fresh(texels);
+    uint8_t *block = copy(block_of(record), ASTC_BLOCK_BYTES), *floats = fresh(texels);
     uint32_t *numbers = fresh(4 * CHANNELS * texels);
-    uint32_t answer = astc_block_channels(0, block, BLOCK, bw_of(record), bh_of(record), numbers, CHANNELS * texels, floats, texels);
+    uint32_t answer = astc_block_channels(0, block, ASTC_BLOCK_BYTES, bw_of(record), bh_of(record), numbers, CHANNELS * texels, floats, texels);
     hold(answer == answer_of(record), "the answer of channels");
     for (size_t i = 0; i < texels; i++) {
         uint32_t word = 0;
@@ -160,14 +160,14 @@ static void refuse_channels(uint32_t options, size_t length, size_t bw, size_t b
 static void refuse_options_and_rooms(size_t bw, size_t bh) {
     static const uint32_t OPTIONS[] = {1, 2, 4, 8, 0x80000000u};
     size_t texels = bw * bh, numbers = CHANNELS * texels;
-    refuse_channels(0, BLOCK, bw, bh, numbers - 1, texels, ASTC_OUTPUT_TOO_SHORT);
-    refuse_channels(0, BLOCK, bw, bh, numbers, texels - 1, ASTC_OUTPUT_TOO_SHORT);
-    refuse_channels(0, BLOCK, bw, bh, texels, texels, ASTC_OUTPUT_TOO_SHORT);
-    refuse_channels(0, BLOCK, bw, bh, 0, 0, ASTC_OUTPUT_TOO_SHORT);
+    refuse_channels(0, ASTC_BLOCK_BYTES, bw, bh, numbers - 1, texels, ASTC_OUTPUT_TOO_SHORT);
+    refuse_channels(0, ASTC_BLOCK_BYTES, bw, bh, numbers, texels - 1, ASTC_OUTPUT_TOO_SHORT);
+    refuse_channels(0, ASTC_BLOCK_BYTES, bw, bh, texels, texels, ASTC_OUTPUT_TOO_SHORT);
+    refuse_channels(0, ASTC_BLOCK_BYTES, bw, bh, 0, 0, ASTC_OUTPUT_TOO_SHORT);
     for (size_t i = 0; i < sizeof OPTIONS / sizeof OPTIONS[0]; i++) {
-        refuse_channels(OPTIONS[i], BLOCK, bw, bh, numbers, texels, ASTC_OPTIONS);
-        refuse_channels(OPTIONS[i], BLOCK - 1, bw, bh, numbers, texels, ASTC_OPTIONS);
-        refuse_channels(OPTIONS[i], BLOCK, bw, bh, 0, 0, ASTC_OPTIONS);
+        refuse_channels(OPTIONS[i], ASTC_BLOCK_BYTES, bw, bh, numbers, texels, ASTC_OPTIONS);
+        refuse_channels(OPTIONS[i], ASTC_BLOCK_BYTES - 1, bw, bh, numbers, texels, ASTC_OPTIONS);
+        refuse_channels(OPTIONS[i], ASTC_BLOCK_BYTES, bw, bh, 0, 0, ASTC_OPTIONS);
         refuse_channels(OPTIONS[i], 0, SIZE_MAX, bh, 0, 0, ASTC_OPTIONS);
     }
 }
@@ -185,18 +185,18 @@ static void refuse_blocks(void) {
     for (size_t bw = 0; bw <= 20; bw++) {
         for (size_t bh = 0; bh <= 20; bh++) {
             for (size_t length = 0; length <= 33; length++) {
-                uint32_t answer = length != BLOCK ? ASTC_BLOCK_LENGTH : listed(bw, bh) ? ASTC_OUTPUT_TOO_SHORT : ASTC_FOOTPRINT;
+                uint32_t answer = length != ASTC_BLOCK_BYTES ? ASTC_BLOCK_LENGTH : listed(bw, bh) ? ASTC_OUTPUT_TOO_SHORT : ASTC_FOOTPRINT;
                 refuse(astc_decode_block, length, bw, bh, 0 < bw * bh ? bw * bh - 1 : 0, answer);
-                refuse(astc_block_map, length, bw, bh, NUMBERS - 1, answer);
+                refuse(astc_block_map, length, bw, bh, ASTC_MAP_NUMBERS - 1, answer);
                 refuse_channels(0, length, bw, bh, 0, 0, answer);
             }
         }
     }
-    refuse(astc_decode_block, BLOCK, SIZE_MAX, SIZE_MAX, 1, ASTC_FOOTPRINT);
-    refuse(astc_decode_block, BLOCK, SIZE_MAX / 2 + 1, 2, 0, ASTC_FOOTPRINT);
+    refuse(astc_decode_block, ASTC_BLOCK_BYTES, SIZE_MAX, SIZE_MAX, 1, ASTC_FOOTPRINT);
+    refuse(astc_decode_block, ASTC_BLOCK_BYTES, SIZE_MAX / 2 + 1, 2, 0, ASTC_FOOTPRINT);
     refuse(astc_decode_block, 0, 4, 4, 0, ASTC_BLOCK_LENGTH);
-    refuse(astc_decode_block, BLOCK, 4, 4, 0, ASTC_OUTPUT_TOO_SHORT);
-    refuse(astc_block_map, BLOCK, 12, 12, 0, ASTC_OUTPUT_TOO_SHORT);
+    refuse(astc_decode_block, ASTC_BLOCK_BYTES, 4, 4, 0, ASTC_OUTPUT_TOO_SHORT);
+    refuse(astc_block_map, ASTC_BLOCK_BYTES, 12, 12, 0, ASTC_OUTPUT_TOO_SHORT);
 }
 
 /* An image of stored blocks, one beside the other. */
@@ -211,9 +211,9 @@ static size_t blocks_of(const struct image *image) { return blocks_a_row(image) 
 
 static uint8_t *data_of(const struct image *image) {
     size_t total = blocks_of(image);
-    uint8_t *data = fresh(BLOCK * total);
+    uint8_t *data = fresh(ASTC_BLOCK_BYTES * total);
     for (size_t i = 0; i < total; i++) {
-        memcpy(data + BLOCK * i, block_of(image->records[i]), BLOCK);
+        memcpy(data + ASTC_BLOCK_BYTES * i, block_of(image->records[i]), ASTC_BLOCK_BYTES);
     }
     return data;
 }
@@ -229,7 +229,7 @@ static void hold_pixels(const struct image *image, const uint32_t *out) {
 }
 
 static void paint_whole(const struct image *image) {
-    size_t size = BLOCK * blocks_of(image), pixels = image->width * image->height;
+    size_t size = ASTC_BLOCK_BYTES * blocks_of(image), pixels = image->width * image->height;
     uint8_t *data = data_of(image);
     uint32_t *out = fresh(4 * pixels);
     uint32_t answer = astc_decode_image(data, size, image->width, image->height, image->bw, image->bh, out, pixels);
@@ -254,11 +254,13 @@ static void paint_in_steps(const struct image *image, size_t pace) {
     uint8_t *data = data_of(image);
     uint32_t *out = fresh(4 * pixels);
     do {
-        uint64_t *moved = fresh(8 * MOVED);
-        uint32_t answer = astc_image_step(data, BLOCK * total, image->width, image->height, image->bw, image->bh, next, pace, out, pixels, moved, MOVED);
+        uint64_t *moved = fresh(8 * ASTC_STEP_NUMBERS);
+        uint32_t answer = astc_image_step(data, ASTC_BLOCK_BYTES * total, image->width, image->height, image->bw, image->bh, next, pace, out, pixels,
+                                          moved, ASTC_STEP_NUMBERS);
         hold(answer == ASTC_LEGAL, "the answer of a step");
         end = pace < total - next ? next + pace : total;
-        hold(moved[0] == end && moved[1] == end - next && moved[2] == bad_between(image, next, end), "the numbers of a step");
+        hold(moved[ASTC_STEP_NEXT] == end && moved[ASTC_STEP_PAINTED] == end - next, "the next block of a step, or how many it painted");
+        hold(moved[ASTC_STEP_BAD] == bad_between(image, next, end), "the bad blocks of a step");
         pace = next == total ? 0 : pace;
         next = end;
         free(moved);
@@ -279,10 +281,10 @@ static void refuse_step(struct sizes s, uint32_t answer) {
     uint32_t *out = marked(4 * s.room);
     uint64_t *moved = marked(8 * s.places);
     hold(astc_image_step(data, s.length, s.width, s.height, s.bw, s.bh, s.next, s.blocks, out, s.room, moved, s.places) == answer, "the answer of a refused step");
-    if (s.places < MOVED) {
+    if (s.places < ASTC_STEP_NUMBERS) {
         hold_marked(moved, 8 * s.places);
     } else {
-        hold(moved[0] == s.next && moved[1] == 0 && moved[2] == 0, "the numbers of a refused step");
+        hold(moved[ASTC_STEP_NEXT] == s.next && moved[ASTC_STEP_PAINTED] == 0 && moved[ASTC_STEP_BAD] == 0, "the numbers of a refused step");
         free(moved);
     }
     hold_marked(out, 4 * s.room);
@@ -298,14 +300,14 @@ static void refuse_image(struct sizes s, uint32_t answer) {
     hold_marked(out, 4 * s.room);
     free(data);
     refusals++;
-    for (s.places = 0; s.places <= MOVED; s.places++) {
+    for (s.places = 0; s.places <= ASTC_STEP_NUMBERS; s.places++) {
         refuse_step(s, answer);
     }
 }
 
 /* Sizes of three blocks by two, one of them wrong, or more with those that are looked at later. */
 static void refuse_images(size_t bw, size_t bh) {
-    struct sizes right = {BLOCK * 6, 3 * bw - 1, bh + 1, bw, bh, 0, 1, (3 * bw - 1) * (bh + 1), MOVED}, s;
+    struct sizes right = {ASTC_BLOCK_BYTES * 6, 3 * bw - 1, bh + 1, bw, bh, 0, 1, (3 * bw - 1) * (bh + 1), ASTC_STEP_NUMBERS}, s;
     static const size_t FOREIGN[][2] = {{0, 4}, {4, 0}, {4, 5}, {13, 13}, {SIZE_MAX, SIZE_MAX}, {SIZE_MAX / 2 + 5, 4}};
     static const size_t LONG[][2] = {{0, 1}, {1, 0}, {4097, 1}, {1, 4097}, {SIZE_MAX, SIZE_MAX}, {SIZE_MAX / 2 + 1, 2}};
     for (size_t i = 0; i < sizeof FOREIGN / sizeof FOREIGN[0]; i++) {
@@ -320,7 +322,7 @@ static void refuse_images(size_t bw, size_t bh) {
         s.height = LONG[i][1];
         refuse_image(s, ASTC_IMAGE_SIDE);
     }
-    for (s = right, s.length = 0; s.length <= right.length + BLOCK; s.length++) {
+    for (s = right, s.length = 0; s.length <= right.length + ASTC_BLOCK_BYTES; s.length++) {
         if (s.length != right.length) {
             refuse_image(s, ASTC_DATA_LENGTH);
         }
@@ -330,7 +332,7 @@ static void refuse_images(size_t bw, size_t bh) {
     refuse_image(s, ASTC_OUTPUT_TOO_SHORT);
     s.room = 0;
     refuse_image(s, ASTC_OUTPUT_TOO_SHORT);
-    for (s = right, s.places = 0; s.places < MOVED; s.places++) {
+    for (s = right, s.places = 0; s.places < ASTC_STEP_NUMBERS; s.places++) {
         refuse_step(s, ASTC_OUTPUT_TOO_SHORT);
     }
     s = right;
