@@ -29,8 +29,9 @@ need() { # COMMAND SOURCE
     fi
 }
 
-# Says that the next part begins, by its number and its name. Before the first one, parts is set to how many there are.
+# Says that the next part begins, by its number and its name. A script sets parts to how many it has.
 part=0
+parts=0
 begin() { # NAME
     part=$((part + 1))
     echo "-- $part of $parts: $1"
@@ -45,4 +46,9 @@ find_original() {
     fi
     ASTC_ORIGINAL=$(cd "$folder" && pwd)
     export ASTC_ORIGINAL
+}
+
+# Prints the version that include/astc.h has, MAJOR.MINOR.PATCH.
+header_version() {
+    awk '$2 ~ /^ASTC_VERSION_(MAJOR|MINOR|PATCH)$/ { version = version point $3; point = "." } END { print version }' include/astc.h
 }
