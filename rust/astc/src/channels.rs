@@ -1,6 +1,6 @@
 //! Texels channel by channel: bytes, and floats where a block is HDR.
 
-use crate::image::refusal;
+use crate::image::check;
 use crate::{surface, Answer, Footprint};
 use core::array;
 
@@ -64,10 +64,10 @@ impl Texels {
     }
 
     /// Reads a block's texels, with room for so many of them; or the archive refuses it.
-    fn read(&mut self, block: &[u8], footprint: Footprint, room: usize) -> Answer {
+    fn read(&mut self, block: &[u8], footprint: Footprint, room: usize) -> Result<Answer, Answer> {
         let room = room.min(TEXELS);
         let (numbers, floats) = (&mut self.numbers[..4 * room], &mut self.floats[..room]);
-        surface::block_channels(block, footprint, numbers, floats)
+        surface::block_channels(block, footprint, numbers, floats).carried_out()
     }
 
     /// The channels of a texel that was read.
@@ -86,8 +86,8 @@ impl Texels {
 
 /// Writes the channels of a block's texels to the first places of `out`, and gives the block's answer.
 ///
-/// Blocks that break a rule are magenta, in bytes. [`Answer::BlockLength`] and [`Answer::OutputTooShort`] leave `out` as it
-/// was; places after the block's texels never change.
+/// Blocks that break a rule are magenta, in bytes. The call is refused, and `out` left as it was, by [`Answer::BlockLength`] or
+/// [`Answer::OutputTooShort`]; places after the block's texels never change.
 ///
 /// A block whose colour is HDR and whose alpha is not; its first texel has the second endpoint, the others the first:
 ///
@@ -97,7 +97,7 @@ impl Texels {
 /// let block = [0x42, 0xc0, 0xf1, 0x20, 1, 0x31, 0x89, 0xa1, 1, 0xff, 1, 0, 0, 0, 0, 0xc0];
 /// let mut texels = [[Byte(0); 4]; 16];
 /// let answer = block_channels(&block, Footprint::new(4, 4).unwrap(), &mut texels);
-/// assert_eq!(answer, Answer::Legal);
+/// assert_eq!(answer, Ok(Answer::Legal));
 /// assert_eq!(texels[0], [Float(8.0), Float(16.0), Float(32.0), Byte(255)]);
 /// assert_eq!(texels[1..], [[Float(1.0), Float(2.0), Float(4.0), Byte(128)]; 15]);
 /// ```
@@ -109,35 +109,37 @@ impl Texels {
 /// let block = [0xfc, 0xff, 0xff, 0xff, 0xff, 0xff, 0xff, 0xff, 0, 0x3c, 0, 0x40, 0, 0xbc, 0, 0x7c];
 /// let mut texels = [[Channel::Byte(0); 4]; 16];
 /// let answer = block_channels(&block, Footprint::new(4, 4).unwrap(), &mut texels);
-/// assert_eq!(answer, Answer::VoidExtent);
+/// assert_eq!(answer, Ok(Answer::VoidExtent));
 /// assert_eq!(texels, [[1.0, 2.0, -1.0, f32::INFINITY].map(Channel::Float); 16]);
 /// ```
-pub fn block_channels(block: &[u8], footprint: Footprint, out: &mut [[Channel; 4]]) -> Answer {
+pub fn block_channels(
+    block: &[u8],
+    footprint: Footprint,
+    out: &mut [[Channel; 4]],
+) -> Result<Answer, Answer> {
     let mut texels = Texels::new();
-    let answer = texels.read(block, footprint, out.len());
-    if answer.is_painted() {
-        for (i, texel) in out.iter_mut().take(footprint.texels()).enumerate() {
-            *texel = texels.texel(i);
-        }
+    let answer = texels.read(block, footprint, out.len())?;
+    for (i, texel) in out.iter_mut().take(footprint.texels()).enumerate() {
+        *texel = texels.texel(i);
     }
-    answer
+    Ok(answer)
 }
 
 /// Writes the channels of an image's pixels to the first `width * height` places of `out`, row by row.
 ///
-/// It answers as [`decode_image`](crate::decode_image) does: [`Answer::Legal`], with blocks that break a rule magenta, in
-/// bytes; any other answer leaves `out` as it was.
+/// Blocks that break a rule are magenta, in bytes. The image is refused, and `out` left as it was, as by
+/// [`decode_image`](crate::decode_image).
 ///
 /// ```
-/// use astc::{image_channels, Answer, Channel, Footprint};
+/// use astc::{image_channels, Channel, Footprint};
 /// let light = [0xfc, 0xff, 0xff, 0xff, 0xff, 0xff, 0xff, 0xff, 0, 0x3c, 0, 0x40, 0, 0x44, 0, 0x3c];
 /// let reserved = [0; 16];
 /// let data = [light, reserved].concat();
 /// let mut pixels = [[Channel::Byte(0); 4]; 6];
-/// let answer = image_channels(&data, 6, 1, Footprint::new(5, 4).unwrap(), &mut pixels);
-/// assert_eq!(answer, Answer::Legal);
+/// image_channels(&data, 6, 1, Footprint::new(5, 4).unwrap(), &mut pixels)?;
 /// assert_eq!(pixels[4], [1.0, 2.0, 4.0, 1.0].map(Channel::Float));
 /// assert_eq!(pixels[5], [255, 0, 255, 255].map(Channel::Byte));
+/// # Ok::<(), astc::Answer>(())
 /// ```
 pub fn image_channels(
     data: &[u8],
@@ -145,16 +147,15 @@ pub fn image_channels(
     height: usize,
     footprint: Footprint,
     out: &mut [[Channel; 4]],
-) -> Answer {
-    if let Some(refusal) = refusal(data, width, height, footprint, out.len()) {
-        return refusal;
-    }
+) -> Result<(), Answer> {
+    check(data, width, height, footprint, out.len())?;
     let (bw, bh) = (footprint.width(), footprint.height());
     let blocks = data.chunks(16 * width.div_ceil(bw));
     let mut texels = Texels::new();
     for (blocks, rows) in blocks.zip(out[..width * height].chunks_mut(width * bh)) {
         for (column, block) in blocks.chunks(16).enumerate() {
-            texels.read(block, footprint, TEXELS);
+            // never refused: the image was checked, and each of its blocks has 16 bytes
+            let _ = texels.read(block, footprint, TEXELS)?;
             for (y, row) in rows.chunks_mut(width).enumerate() {
                 for (x, pixel) in row[column * bw..].iter_mut().take(bw).enumerate() {
                     *pixel = texels.texel(y * bw + x);
@@ -162,5 +163,5 @@ pub fn image_channels(
             }
         }
     }
-    Answer::Legal
+    Ok(())
 }

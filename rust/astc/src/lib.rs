@@ -1,7 +1,13 @@
 //! Safe Rust over a proved ASTC decoder.
 //!
-//! Every function takes any slices and sizes, always ends, and answers by an [`Answer`]. A word holds blue in its bits 0
-//! to 7, green in 8 to 15, red in 16 to 23 and alpha in 24 to 31. There is no state, no allocation and no global.
+//! Every function takes any slices and sizes and always ends. A word holds blue in its bits 0 to 7, green in 8 to 15, red in 16
+//! to 23 and alpha in 24 to 31. There is no state and no global, and nothing is allocated but what threads take.
+//!
+//! Every call that can fail gives a `Result`. `Ok` means that it was carried out. `Err` holds the [`Answer`] by which it was
+//! refused, and then nothing was written. A block that breaks a rule is carried out too: it is painted magenta, and the `Ok` of
+//! [`decode_block`] and [`block_channels`] holds the rule's answer ([`Answer::is_bad`]) where a legal block has
+//! [`Answer::Legal`] and a void-extent block [`Answer::VoidExtent`]. [`block_map`] alone has an `Err` for these too, since they
+//! have no map.
 //!
 //! Words end at 1.0. [`block_channels`] and [`image_channels`] give what lies above it too: each channel as a byte or, where
 //! the block is HDR, as an `f32`.
@@ -9,16 +15,22 @@
 //! ```
 //! use astc::{decode_block, Answer, Footprint};
 //! let block = [0x42, 0, 0, 0xfe, 1, 0, 0, 0, 0, 0, 0, 0, 0, 0, 0, 0xe0];
+//! let footprint = Footprint::new(4, 4).unwrap();
 //! let mut words = [0; 16];
-//! let answer = decode_block(&block, Footprint::new(4, 4).unwrap(), &mut words);
-//! assert_eq!(answer, Answer::Legal);
+//! assert_eq!(decode_block(&block, footprint, &mut words), Ok(Answer::Legal));
 //! assert_eq!(words[..3], [0xffff_ffff, 0xff54_5454, 0xff00_0000]);
+//! assert_eq!(decode_block(&block[1..], footprint, &mut words), Err(Answer::BlockLength));
 //! ```
 #![no_std]
 #![deny(missing_docs)]
 
-#[cfg(feature = "std")]
+#[cfg(any(feature = "std", test))]
 extern crate std;
+
+const _: () = assert!(
+    usize::BITS == 64,
+    "the proofs of the decoder are for machines whose usize has 64 bits"
+);
 
 mod answer;
 #[cfg(feature = "std")]
@@ -29,11 +41,11 @@ mod image;
 pub mod raw;
 mod surface;
 
-pub use answer::Answer;
+pub use answer::{Answer, UnknownAnswer};
 #[cfg(feature = "std")]
 pub use bands::{decode_image_by_threads, image_channels_by_threads};
 pub use channels::{block_channels, image_channels, Channel};
-pub use footprint::Footprint;
+pub use footprint::{Footprint, NotAFootprint};
 pub use image::{decode_image, Cursor, Step};
 
 /// Where a field of a block stands.
@@ -60,14 +72,15 @@ pub struct Map {
     pub weights: Field,
 }
 
-/// Paints the first words of `out` with a block's texels.
+/// Paints the first words of `out` with a block's texels, and gives the block's answer.
 ///
-/// [`Answer::BlockLength`] and [`Answer::OutputTooShort`] leave `out` as it was; words after the painted ones never change.
-pub fn decode_block(block: &[u8], footprint: Footprint, out: &mut [u32]) -> Answer {
-    surface::decode_block(block, footprint, out)
+/// A block that breaks a rule is magenta. The call is refused, and `out` left as it was, by [`Answer::BlockLength`] or
+/// [`Answer::OutputTooShort`]; words after the painted ones never change.
+pub fn decode_block(block: &[u8], footprint: Footprint, out: &mut [u32]) -> Result<Answer, Answer> {
+    surface::decode_block(block, footprint, out).carried_out()
 }
 
-/// The map of a legal block, or the answer of any other.
+/// The map of a legal block, or the answer of any other, which has none.
 ///
 /// ```
 /// use astc::{block_map, Answer, Field, Footprint};

@@ -5,14 +5,9 @@ use crate::raw::{
 };
 use crate::{Answer, Footprint};
 
-/// The archive is proved to answer by these numbers alone.
-fn answer(number: u32) -> Answer {
-    Answer::of(number).expect("the archive gives no other number")
-}
-
 pub fn decode_block(block: &[u8], f: Footprint, out: &mut [u32]) -> Answer {
     // SAFETY: each pointer has as many places as the length after it says, and only `out` is written.
-    answer(unsafe {
+    Answer::of_call(unsafe {
         astc_decode_block(
             block.as_ptr(),
             block.len(),
@@ -26,7 +21,7 @@ pub fn decode_block(block: &[u8], f: Footprint, out: &mut [u32]) -> Answer {
 
 pub fn block_map(block: &[u8], f: Footprint, map: &mut [u32; 9]) -> Answer {
     // SAFETY: each pointer has as many places as the length after it says, and only `map` is written.
-    answer(unsafe {
+    Answer::of_call(unsafe {
         astc_block_map(
             block.as_ptr(),
             block.len(),
@@ -45,7 +40,7 @@ pub fn block_channels(
     floats: &mut [u8],
 ) -> Answer {
     // SAFETY: each pointer has as many places as the length after it says, and only `channels` and `floats` are written.
-    answer(unsafe {
+    Answer::of_call(unsafe {
         astc_block_channels(
             0,
             block.as_ptr(),
@@ -68,7 +63,7 @@ pub fn decode_image(
     out: &mut [u32],
 ) -> Answer {
     // SAFETY: each pointer has as many places as the length after it says, and only `out` is written.
-    answer(unsafe {
+    Answer::of_call(unsafe {
         astc_decode_image(
             data.as_ptr(),
             data.len(),
@@ -109,5 +104,5 @@ pub fn image_step(
             moved.len(),
         )
     };
-    (answer(number), moved)
+    (Answer::of_call(number), moved)
 }

@@ -41,7 +41,7 @@ fn void(halves: [u16; 4]) -> [u8; 16] {
 /// The answer and the one texel of a block that is all alike.
 fn texel(block: &[u8; 16]) -> (Answer, [Channel; 4]) {
     let mut out = [BEFORE; 16];
-    let answer = block_channels(block, four_by_four(), &mut out);
+    let answer = block_channels(block, four_by_four(), &mut out).unwrap();
     assert!(out.iter().all(|t| bits(t) == bits(&out[0])));
     (answer, out[0])
 }
@@ -176,20 +176,20 @@ fn a_refused_block_leaves_the_output_alone() {
     for footprint in Footprint::ALL {
         let texels = footprint.texels();
         for (bytes, room, wanted) in [
-            (0, texels, Answer::BlockLength),
-            (15, texels, Answer::BlockLength),
-            (17, texels, Answer::BlockLength),
-            (15, 0, Answer::BlockLength),
-            (17, texels - 1, Answer::BlockLength),
-            (16, 0, Answer::OutputTooShort),
-            (16, texels - 1, Answer::OutputTooShort),
-            (16, texels, Answer::VoidExtent),
-            (16, 200, Answer::VoidExtent),
+            (0, texels, Err(Answer::BlockLength)),
+            (15, texels, Err(Answer::BlockLength)),
+            (17, texels, Err(Answer::BlockLength)),
+            (15, 0, Err(Answer::BlockLength)),
+            (17, texels - 1, Err(Answer::BlockLength)),
+            (16, 0, Err(Answer::OutputTooShort)),
+            (16, texels - 1, Err(Answer::OutputTooShort)),
+            (16, texels, Ok(Answer::VoidExtent)),
+            (16, 200, Ok(Answer::VoidExtent)),
         ] {
             let block: Vec<u8> = whole.iter().copied().cycle().take(bytes).collect();
             let mut out = vec![BEFORE; room];
             assert_eq!(block_channels(&block, footprint, &mut out), wanted);
-            let written = if wanted.is_painted() { texels } else { 0 };
+            let written = if wanted.is_ok() { texels } else { 0 };
             assert!(out[..written].iter().all(|t| *t == [Float(1.0); 4]));
             assert!(out[written..].iter().all(|t| *t == BEFORE));
         }
@@ -243,13 +243,13 @@ fn an_image_is_its_blocks_clipped() {
         for (width, height) in [(1, 1), (bw, bh), (bw + 1, bh - 1), (29, 23), (3, 70)] {
             let data = blocks(&mut random, footprint.blocks(width, height));
             let mut out = vec![BEFORE; width * height + 5];
-            let answer = image_channels(&data, width, height, footprint, &mut out);
-            assert_eq!(answer, Answer::Legal);
+            image_channels(&data, width, height, footprint, &mut out).unwrap();
             for (k, pixel) in out[..width * height].iter().enumerate() {
                 let (x, y) = (k % width, k / width);
                 let block = y / bh * width.div_ceil(bw) + x / bw;
                 let mut texels = [BEFORE; 144];
-                block_channels(&data[16 * block..][..16], footprint, &mut texels);
+                let data = &data[16 * block..][..16];
+                assert!(block_channels(data, footprint, &mut texels).is_ok());
                 assert_eq!(bits(pixel), bits(&texels[y % bh * bw + x % bw]));
             }
             assert_eq!(out[width * height..], [BEFORE; 5]);
@@ -295,7 +295,7 @@ fn an_image_is_refused_as_its_words_are() {
                     let call = format!("{footprint:?} {width}x{height}, {bytes}, {room}");
                     let wanted = decode_image(&data, width, height, footprint, &mut words);
                     assert_eq!(answer, wanted, "{call}");
-                    let written = if answer.is_painted() { pixels } else { 0 };
+                    let written = if answer.is_ok() { pixels } else { 0 };
                     assert!(out[..written].iter().all(|p| *p == MAGENTA), "{call}");
                     assert!(out[written..].iter().all(|p| *p == BEFORE), "{call}");
                     if !answers.contains(&answer) {
@@ -305,12 +305,12 @@ fn an_image_is_refused_as_its_words_are() {
             }
         }
     }
-    answers.sort_by_key(|a| a.number());
+    answers.sort_by_key(|answer| answer.err().map(Answer::number));
     let all = [
-        Answer::Legal,
-        Answer::OutputTooShort,
-        Answer::ImageSide,
-        Answer::DataLength,
+        Ok(()),
+        Err(Answer::OutputTooShort),
+        Err(Answer::ImageSide),
+        Err(Answer::DataLength),
     ];
     assert_eq!(answers, all);
 }

@@ -38,27 +38,23 @@ impl Progress {
 }
 
 /// Decodes to words, in steps; the words, and how many blocks broke a rule.
-fn words(container: &Container) -> (Vec<u32>, usize) {
+fn words(container: &Container) -> Result<(Vec<u32>, usize), Answer> {
     let (width, height) = (container.width, container.height);
     let mut words = vec![0; width * height];
     let mut cursor = Cursor::new(width, height, container.footprint);
     let progress = Progress::new(container.blocks.len() / 16);
     let mut bad = 0;
     while cursor.next < progress.total {
-        let step = cursor.step(container.blocks, BLOCKS, &mut words);
-        assert!(
-            step.answer.is_painted(),
-            "the container's sizes were checked"
-        );
+        let step = cursor.step(container.blocks, BLOCKS, &mut words)?;
         bad += step.bad;
         cursor = step.cursor;
         progress.show(cursor.next);
     }
-    (words, bad)
+    Ok((words, bad))
 }
 
 /// Decodes to floats, in bands of whole rows of blocks, each an image of its own; the pixels, and how many blocks broke a rule.
-fn floats(container: &Container) -> (Vec<[f32; 3]>, usize) {
+fn floats(container: &Container) -> Result<(Vec<[f32; 3]>, usize), Answer> {
     let (width, height, footprint) = (container.width, container.height, container.footprint);
     let across = width.div_ceil(footprint.width());
     let rows = BLOCKS.div_ceil(across);
@@ -69,44 +65,43 @@ fn floats(container: &Container) -> (Vec<[f32; 3]>, usize) {
     for blocks in container.blocks.chunks(16 * across * rows) {
         let left = height - pixels.len() / width;
         let high = left.min(rows * footprint.height());
-        let answer = image_channels(blocks, width, high, footprint, &mut band);
-        assert!(answer.is_painted(), "the container's sizes were checked");
+        image_channels(blocks, width, high, footprint, &mut band)?;
         pixels.extend(band[..width * high].iter().copied().map(pfm::colour));
         let maps = blocks.chunks(16).map(|block| block_map(block, footprint));
         bad += maps.filter(|map| map.is_err_and(Answer::is_bad)).count();
         done += blocks.len() / 16;
         progress.show(done);
     }
-    (pixels, bad)
+    Ok((pixels, bad))
 }
 
 /// The file of a picture, how many blocks broke a rule and, where it has floats, how many pixels lie above 1.0.
-fn picture(container: &Container, output: &str) -> (Vec<u8>, usize, Option<usize>) {
+fn picture(container: &Container, output: &str) -> Result<(Vec<u8>, usize, Option<usize>), Answer> {
     let (width, height) = (container.width, container.height);
     if output.ends_with(".pfm") {
-        let (pixels, bad) = floats(container);
+        let (pixels, bad) = floats(container)?;
         let above = pixels.iter().filter(|p| pfm::is_above_one(p)).count();
-        return (pfm::pfm(&pixels, width, height), bad, Some(above));
+        return Ok((pfm::pfm(&pixels, width, height), bad, Some(above)));
     }
-    let (words, bad) = words(container);
+    let (words, bad) = words(container)?;
     let file = if output.ends_with(".pam") {
         png::pam(&words, width, height)
     } else {
         png::png(&words, width, height)
     };
-    (file, bad, None)
+    Ok((file, bad, None))
 }
 
 fn run(input: &str, output: &str) -> Result<(), String> {
     let file = fs::read(input).map_err(|e| format!("{input} was not read: {e}"))?;
     let container = container::read(&file).map_err(|fault| format!("{input}: {fault}"))?;
-    let (picture, bad, above) = picture(&container, output);
+    let (picture, bad, above) =
+        picture(&container, output).map_err(|refusal| format!("{input}: {refusal}"))?;
     fs::write(output, picture).map_err(|e| format!("{output} was not written: {e}"))?;
     let (width, height) = (container.width, container.height);
-    let (bw, bh) = (container.footprint.width(), container.footprint.height());
-    let total = container.blocks.len() / 16;
+    let (footprint, total) = (container.footprint, container.blocks.len() / 16);
     let mut said =
-        format!("{width}x{height} pixels, {total} blocks of {bw}x{bh}, {bad} of them magenta\n");
+        format!("{width}x{height} pixels, {total} blocks of {footprint}, {bad} of them magenta\n");
     if let Some(above) = above {
         said += &format!("{above} pixels above 1.0\n");
     }

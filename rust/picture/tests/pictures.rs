@@ -12,14 +12,13 @@ use common::{decoded_by_astcenc, stored};
 fn files() -> Vec<PathBuf> {
     Footprint::ALL
         .iter()
-        .map(|f| stored(&format!("{}x{}.astc", f.width(), f.height())))
+        .map(|footprint| stored(&format!("{footprint}.astc")))
         .collect()
 }
 
 fn decode(c: &Container) -> Vec<u32> {
     let mut words = vec![0; c.width * c.height];
-    let answer = astc::decode_image(c.blocks, c.width, c.height, c.footprint, &mut words);
-    assert_eq!(answer, astc::Answer::Legal);
+    astc::decode_image(c.blocks, c.width, c.height, c.footprint, &mut words).unwrap();
     words
 }
 

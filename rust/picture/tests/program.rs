@@ -52,7 +52,7 @@ fn the_stored_files_floats_and_their_count() {
     let file = fs::read(stored("hdr-6x6.astc")).unwrap();
     let c = container::read(&file).unwrap();
     let mut words = vec![0; c.width * c.height];
-    decode_image(c.blocks, c.width, c.height, c.footprint, &mut words);
+    decode_image(c.blocks, c.width, c.height, c.footprint, &mut words).unwrap();
     let theirs = halves(&fs::read(stored("hdr-6x6.ktx")).unwrap());
     let (said, pixels) = pfm(&stored("hdr-6x6.astc"), "stored.pfm", c.width, c.height);
 
@@ -130,7 +130,7 @@ fn bands_make_one_picture() {
     fs::remove_file(&input).unwrap();
     let mut whole = vec![[Channel::Byte(0); 4]; width * height];
     let data = blocks.as_flattened();
-    image_channels(data, width, height, Footprint::ALL[0], &mut whole);
+    image_channels(data, width, height, Footprint::ALL[0], &mut whole).unwrap();
     let wanted = whole
         .iter()
         .map(|p| [p[0], p[1], p[2]].map(|channel| channel.to_f32().to_bits()));

@@ -1,7 +1,7 @@
 //! What a second thread gains.
 
 use super::kinds::{Kind, Source};
-use astc::{decode_image_by_threads, Answer, Footprint};
+use astc::{decode_image_by_threads, Footprint};
 use judge::archive;
 use model::blocks::Legal;
 use model::Shape;
@@ -38,13 +38,14 @@ fn times((bw, bh): (usize, usize), runs: usize) -> Result<[Duration; 3], String>
         let time = taken(|| number = archive::decode_image(&data, shape, &mut whole));
         best[0] = time.min(best[0]);
         for threads in [1, 2] {
-            let mut answer = Answer::Legal;
+            let mut outcome = Ok(());
             parts.fill(1);
             let time = taken(|| {
-                answer = decode_image_by_threads(&data, SIDE, SIDE, footprint, &mut parts, threads);
+                outcome =
+                    decode_image_by_threads(&data, SIDE, SIDE, footprint, &mut parts, threads);
             });
             best[threads] = time.min(best[threads]);
-            if number != 0 || answer != Answer::Legal || parts != whole {
+            if number != 0 || outcome.is_err() || parts != whole {
                 return Err(format!(
                     "{bw}x{bh} by {threads} threads is not the image as a whole"
                 ));
