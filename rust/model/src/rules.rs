@@ -37,9 +37,9 @@ const NARROWEST: usize = 4;
 /// The bits of `n` values of range `q`: the fewest that hold so many trits, quints and bits.
 pub fn cost(q: usize, n: usize) -> usize {
     let levels = TOPS[q] + 1;
-    let (digit, extra) = if levels.is_multiple_of(3) {
+    let (digit, extra) = if levels % 3 == 0 {
         (3, (8 * n).div_ceil(5))
-    } else if levels.is_multiple_of(5) {
+    } else if levels % 5 == 0 {
         (5, (7 * n).div_ceil(3))
     } else {
         (1, 0)

@@ -79,9 +79,9 @@ fn u64_at(a: &Answer, i: usize) -> u64 {
 /// The values of a range's digit, 3, 5 or (plain) 0, and its plain bits.
 fn kind(q: usize) -> (usize, usize) {
     let levels = TOPS[q] + 1;
-    let digit = if levels.is_multiple_of(3) {
+    let digit = if levels % 3 == 0 {
         3
-    } else if levels.is_multiple_of(5) {
+    } else if levels % 5 == 0 {
         5
     } else {
         0
