@@ -42,7 +42,7 @@ impl<'a> Call<'a> {
         Sample::new(block, (self.bw, self.bh))
     }
 
-    /// Has the block painted, by document 01's rules and the original; its answer.
+    /// Has the block painted, by the rules of docs/SCOPE.md and the original; its answer.
     pub fn words(self, canvas: &mut Canvas) -> Result<u32, String> {
         let answer = match self.refusal(canvas.room(), self.texels()) {
             Some(answer) => answer,
@@ -62,7 +62,7 @@ impl<'a> Call<'a> {
         canvas.compare("word")
     }
 
-    /// Has the block's map written, by document 01's rules; its answer.
+    /// Has the block's map written, by the rules of docs/SCOPE.md; its answer.
     pub fn map(self, canvas: &mut Canvas) -> Result<u32, String> {
         let answer = match self.refusal(canvas.room(), NUMBERS) {
             Some(answer) => answer,

@@ -1,5 +1,5 @@
 //! Whole images and images in steps: the archive against images that the original paints, block by block and whole, and against
-//! document 01's rules on sizes and cursors.
+//! the rules of docs/SCOPE.md on sizes and cursors.
 
 use crate::archive;
 use crate::canvas::{marks, same_answer, Canvas, AROUND};

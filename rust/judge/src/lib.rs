@@ -1,4 +1,4 @@
-//! Holds calls of the archive to what they must answer and write, by the original and by document 01's rules. What is called, with
+//! Holds calls of the archive to what they must answer and write, by the original and by the rules of docs/SCOPE.md. What is called, with
 //! which blocks and sizes, is the caller's to choose.
 
 pub mod archive;

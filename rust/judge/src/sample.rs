@@ -1,11 +1,11 @@
-//! A block, and what document 01 and the original make of it.
+//! A block, and what docs/SCOPE.md and the original make of it.
 
 use model::{answer, Layout, Texel, MAGENTA};
 use original::astc::{decode_astc_block, probe};
 use std::array;
 use std::panic::{catch_unwind, AssertUnwindSafe};
 
-/// A block at a footprint, and the answer that document 01 gives it.
+/// A block at a footprint, and the answer that docs/SCOPE.md gives it.
 pub struct Sample {
     pub block: [u8; 16],
     pub bw: usize,

@@ -37,7 +37,7 @@ pub fn single(half: u16) -> u32 {
     sign | rest
 }
 
-/// The byte that document 01 makes of a float: 255 times it, rounded down, at least 0 and at most 255; 0 of a NaN, and 255 of minus
+/// The byte that docs/SCOPE.md makes of a float: 255 times it, rounded down, at least 0 and at most 255; 0 of a NaN, and 255 of minus
 /// infinity. That is `f32_to_u8`, its rule for void blocks; its rule for others is the same for all floats that they have.
 fn reduced(float: u32) -> u8 {
     let float = f32::from_bits(float);

@@ -1,4 +1,4 @@
-//! Document 01's rules on blocks and images, written a second time, since the original judges neither; the rules on channels, which
+//! The rules of docs/SCOPE.md on blocks and images, written a second time, since the original judges neither; the rules on channels, which
 //! it does not have; and seeded sources of blocks.
 
 pub mod blocks;

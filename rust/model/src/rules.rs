@@ -258,7 +258,7 @@ pub fn refusal(block_len: usize, bw: usize, bh: usize, room: usize, wanted: usiz
 mod tests {
     use super::*;
 
-    /// Document 01's block P1.
+    /// The block P1 of docs/SCOPE.md.
     const P1: [u8; 16] = [0x42, 0, 0, 0xfe, 1, 0, 0, 0, 0, 0, 0, 0, 0, 0, 0, 0xe0];
 
     /// A block with a first byte and a second, which hold the block mode, and zeros.

@@ -144,7 +144,7 @@ fn with_bits(block: Block, start: usize, len: usize, value: usize) -> Block {
     (u128::from_le_bytes(block) & !field | (value as u128) << start).to_le_bytes()
 }
 
-/// Blocks that document 01 and docs/DIFFERENCES.md name: P1, P1 with its unmapped byte set, P3, P4, and the contracted mode 9
+/// Blocks that docs/SCOPE.md and docs/DIFFERENCES.md name: P1, P1 with its unmapped byte set, P3, P4, and the contracted mode 9
 /// that would paint another blue if it were not clamped.
 fn add_named(list: &mut List) {
     for block in [
@@ -437,7 +437,7 @@ fn summary(list: &List, sub_modes: usize, edges: &[usize]) -> String {
 mod tests {
     use super::*;
 
-    /// Document 01's P1: red, green and blue are 255, 84, then fourteen 0; alpha is 255.
+    /// P1 of docs/SCOPE.md: red, green and blue are 255, 84, then fourteen 0; alpha is 255.
     #[test]
     fn a_record_of_the_block_p1() {
         let mut list = List::default();
