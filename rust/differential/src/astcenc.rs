@@ -14,7 +14,7 @@ struct Judge {
     ldr: Context,
 }
 
-/// What this project finds in a legal block: the endpoint range by the archive's map, the rest by document 01's rules.
+/// What this project finds in a legal block: the endpoint range by the archive's map, the rest by the rules of docs/SCOPE.md.
 fn our_findings(sample: &Sample, map: &[u32; 9]) -> Findings {
     let block = &sample.block;
     let l = Layout::of(block);
@@ -93,9 +93,10 @@ fn judge(judges: &mut [Judge], sample: &Sample, tally: &mut Tally) -> Result<(),
 
 /// The whole comparison; whether there was no difference.
 pub fn compare(options: &Options) -> bool {
-    println!(
+    say!(
         "the archive against astcenc, seed {}, count {}",
-        options.seed, options.count
+        options.seed,
+        options.count
     );
     let start = Instant::now();
     let judges = || {

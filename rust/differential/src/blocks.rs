@@ -1,6 +1,7 @@
-//! The archive against the original and document 01's rules: answers, words, maps, and what must stay.
+//! The archive against the original and the rules of docs/SCOPE.md: answers, words, maps, and what must stay.
 
 use crate::run::{run, Options, Tally};
+use crate::screen::Count;
 use judge::block::{Call, NUMBERS};
 use judge::{room, Canvas, Sample, SPARE};
 use model::blocks::{self, Kind};
@@ -64,7 +65,9 @@ pub fn legal_bytes(random: &mut Random) -> [u8; 40] {
 /// Calls that their sizes refuse, one or several sizes wrong: the answer, and an output that stays. The sixteen bytes and those
 /// after them would be legal blocks.
 fn compare_refusals(random: &mut Random, tally: &mut Tally) {
-    for (bw, bh) in footprints() {
+    let footprints = footprints();
+    let count = Count::of("footprints of refused calls", footprints.len() as u64);
+    for (bw, bh) in footprints {
         let bytes = legal_bytes(random);
         let texels = bw.saturating_mul(bh);
         let most = 144 + SPARE;
@@ -87,6 +90,7 @@ fn compare_refusals(random: &mut Random, tally: &mut Tally) {
                 }
             }
         }
+        count.add(1);
     }
 }
 
@@ -115,9 +119,10 @@ pub fn refused(
 
 /// The whole comparison; whether there was no difference.
 pub fn compare(options: &Options) -> bool {
-    println!(
+    say!(
         "the archive against the original, seed {}, count {}",
-        options.seed, options.count
+        options.seed,
+        options.count
     );
     let start = Instant::now();
     let mut refusals = Tally::default();

@@ -2,6 +2,7 @@
 
 use crate::blocks::{footprints, legal_bytes, refused};
 use crate::run::{run, Options, Tally};
+use crate::screen::Count;
 use judge::block::Call;
 use judge::channels::Outputs;
 use judge::{room, Sample, SPARE};
@@ -77,6 +78,7 @@ fn compare_void(random: &mut Random, tally: &mut Tally) {
     let mut judge = move |sample: &Sample, random: &mut Random, tally: &mut Tally| {
         judge(&mut astcenc, sample, random, tally)
     };
+    let count = Count::of("void blocks", 2 << 16);
     for (halves, kind) in [
         (true, "void, with each half in each channel"),
         (false, "void, with each 16-bit number in each channel"),
@@ -86,6 +88,7 @@ fn compare_void(random: &mut Random, tally: &mut Tally) {
             let footprint = FOOTPRINTS[usize::from(number) % FOOTPRINTS.len()];
             let sample = Sample::new(void(halves, channels), footprint);
             tally.take(kind, &sample, &mut judge, random);
+            count.add(1);
         }
     }
 }
@@ -96,7 +99,9 @@ const OPTIONS: [u32; 5] = [1, 2, 4, 8, 1 << 31];
 /// Calls that their options or their sizes refuse, one or several wrong: the answer, and two outputs that stay. The sixteen bytes and
 /// those after them would be legal blocks.
 fn compare_refusals(random: &mut Random, tally: &mut Tally) {
-    for (bw, bh) in footprints() {
+    let footprints = footprints();
+    let count = Count::of("footprints of refused calls", footprints.len() as u64);
+    for (bw, bh) in footprints {
         let bytes = legal_bytes(random);
         let texels = bw.saturating_mul(bh);
         let rooms = |wanted: usize, most: usize| {
@@ -115,6 +120,7 @@ fn compare_refusals(random: &mut Random, tally: &mut Tally) {
                 compare_refusal(call, options, room, random, tally);
             }
         }
+        count.add(1);
     }
 }
 
@@ -135,9 +141,10 @@ fn compare_refusal(
 
 /// The whole comparison; whether there was no difference.
 pub fn compare(options: &Options) -> bool {
-    println!(
+    say!(
         "the archive's channels against the original and astcenc, seed {}, count {}",
-        options.seed, options.count
+        options.seed,
+        options.count
     );
     let start = Instant::now();
     let mut others = Tally::default();

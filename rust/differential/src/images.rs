@@ -1,6 +1,7 @@
 //! Whole images, images in steps and refused ones, of blocks of all kinds and of sizes that are right or wrong.
 
 use crate::run::{Options, Tally};
+use crate::screen::Count;
 use judge::image::{refused, Image, Moved, Step, MOVED};
 use judge::{room, Canvas, Sample, SPARE};
 use model::blocks::{Kind, Legal};
@@ -294,6 +295,7 @@ impl Refused<'_> {
 fn compare_refusals(seed: u64, legal: &[Legal], tally: &mut Tally) {
     let random = &mut Random::new(seed);
     let half = 1 << (usize::BITS / 2);
+    let count = Count::of("footprints of refused calls", FOOTPRINTS.len() as u64);
     for (&(bw, bh), legal) in FOOTPRINTS.iter().zip(legal) {
         let right = Shape {
             width: bw + 1,
@@ -326,22 +328,25 @@ fn compare_refusals(seed: u64, legal: &[Legal], tally: &mut Tally) {
                 }
             }
         }
+        count.add(1);
     }
 }
 
 /// The whole comparison; whether there was no difference.
 pub fn compare(options: &Options) -> bool {
     let (seed, count) = (options.seed, options.count);
-    println!("the archive's images against the original, seed {seed}, count {count}");
+    say!("the archive's images against the original, seed {seed}, count {count}");
     let start = Instant::now();
     let legal = FOOTPRINTS.map(|(bw, bh)| Legal::at(bw, bh));
     let mut tally = Tally::default();
     compare_refusals(seed, &legal, &mut tally);
+    let images = Count::of("images", count + 2);
     for number in 0..count {
         let random = &mut Random::part(seed, number);
         let (shape, judged) = shape(number as usize, random);
         let what = format!("image {number} of seed {seed}");
         compare_image(&what, shape, judged, &legal, random, &mut tally);
+        images.add(1);
     }
     for (bw, bh) in [FOOTPRINTS[0], FOOTPRINTS[13]] {
         let random = &mut Random::part(!seed, bw as u64);
@@ -353,6 +358,7 @@ pub fn compare(options: &Options) -> bool {
         };
         let what = format!("the largest image of seed {seed}");
         compare_image(&what, shape, false, &legal, random, &mut tally);
+        images.add(1);
     }
     tally.close(&format!("{} images", count + 2), start)
 }

@@ -1,6 +1,7 @@
 //! A long run over blocks of all kinds, in parts that threads take in turn. A seed and a count give the same blocks to any judge,
 //! with any number of threads.
 
+use crate::screen::Count;
 use judge::Sample;
 use model::blocks::{self, Kind, Legal};
 use model::random::Random;
@@ -19,6 +20,9 @@ pub struct Options {
 
 /// The blocks of one part of a run.
 const PART: u64 = 10_000;
+
+/// The numbers that the first eleven bits of a block can be.
+const FIRST: u16 = 2048;
 
 /// The differences that a thread shows; it counts the others.
 const SHOWN: u64 = 5;
@@ -53,7 +57,7 @@ impl Tally {
     pub fn differ(&mut self, difference: &str) {
         self.differences += 1;
         if self.differences <= SHOWN {
-            println!("difference: {difference}");
+            say!("difference: {difference}");
         }
     }
 
@@ -93,12 +97,12 @@ impl Tally {
     /// Prints the counts of a run over blocks; whether there was no difference.
     pub fn end(&self, start: Instant) -> bool {
         for (kind, count) in &self.kinds {
-            println!("blocks, {kind}: {count}");
+            say!("blocks, {kind}: {count}");
         }
         for answer in ANSWERS {
             let count = self.answers.get(&answer).copied().unwrap_or(0);
             assert!(count > 0, "no block with answer {answer} was compared");
-            println!("blocks of answer {answer}: {count}");
+            say!("blocks of answer {answer}: {count}");
         }
         let blocks = self.kinds.values().sum::<u64>();
         self.close(&format!("{blocks} blocks"), start)
@@ -107,9 +111,9 @@ impl Tally {
     /// Prints what was counted beside blocks, and last what it was all about; whether there was no difference.
     pub fn close(&self, all: &str, start: Instant) -> bool {
         for (what, count) in &self.others {
-            println!("{what}: {count}");
+            say!("{what}: {count}");
         }
-        println!(
+        say!(
             "{all}, {} differences, {:.1} s",
             self.differences,
             start.elapsed().as_secs_f64()
@@ -131,11 +135,15 @@ impl Source<'_> {
         FOOTPRINTS.len() as u64 + self.options.count.div_ceil(PART)
     }
 
+    fn blocks(&self) -> u64 {
+        FOOTPRINTS.len() as u64 * u64::from(FIRST) + self.options.count
+    }
+
     /// The blocks of a part, each with the name of its kind.
     fn part(&self, part: u64) -> Vec<(&'static str, Sample)> {
         let random = &mut Random::part(self.options.seed, part);
         if let Some(&footprint) = FOOTPRINTS.get(part as usize) {
-            return (0..2048)
+            return (0..FIRST)
                 .map(|first| blocks::with_first_bits(first, random))
                 .map(|block| {
                     (
@@ -169,6 +177,7 @@ pub fn run<J: Judge>(
         legal: FOOTPRINTS.map(|(bw, bh)| Legal::at(bw, bh)),
     };
     let next = AtomicU64::new(0);
+    let count = Count::of("blocks", source.blocks());
     let work = || {
         let mut judge = judge();
         let mut tally = Tally::default();
@@ -178,9 +187,11 @@ pub fn run<J: Judge>(
                 return tally;
             }
             let choices = &mut Random::part(!options.seed, part);
-            for (kind, sample) in source.part(part) {
-                tally.take(kind, &sample, &mut judge, choices);
+            let blocks = source.part(part);
+            for (kind, sample) in &blocks {
+                tally.take(kind, sample, &mut judge, choices);
             }
+            count.add(blocks.len() as u64);
         }
     };
     thread::scope(|scope| {

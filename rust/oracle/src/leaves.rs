@@ -1,6 +1,7 @@
 //! The comparisons, one for each layer.
 
 use crate::asker::{Asker, Request, ANSWER};
+use crate::say;
 use model::random::Random;
 use model::{blocks, FOOTPRINTS, TOPS};
 use original::astc::probe;
@@ -19,11 +20,15 @@ const COLOR: u8 = 10;
 
 type Answer = [u8; ANSWER];
 
-/// Counts what was compared, and shows the first differences.
+/// The differences that a comparison shows; it counts the others.
+const SHOWN: u64 = 3;
+
+/// Counts what was compared, and keeps the first differences to be shown.
 struct Tally {
     name: &'static str,
     compared: u64,
     differences: u64,
+    shown: String,
 }
 
 impl Tally {
@@ -32,6 +37,7 @@ impl Tally {
             name,
             compared: 0,
             differences: 0,
+            shown: String::new(),
         }
     }
 
@@ -45,22 +51,24 @@ impl Tally {
         self.compared += 1;
         if ours != theirs {
             self.differences += 1;
-            if self.differences <= 3 {
-                println!(
-                    "  {}: {what}: ours {ours:?}, original's {theirs:?}, at {:02x?}",
+            if self.differences <= SHOWN {
+                self.shown += &format!(
+                    "  {}: {what}: ours {ours:?}, original's {theirs:?}, at {:02x?}\n",
                     self.name, request.0
                 );
             }
         }
     }
 
-    fn end(self) -> bool {
-        println!(
-            "{}: {} compared, {} differences",
-            self.name, self.compared, self.differences
+    /// Prints the differences and the count; whether there was no difference.
+    fn end(self) -> Result<bool, String> {
+        let line = format!(
+            "{}{}: {} compared, {} differences\n",
+            self.shown, self.name, self.compared, self.differences
         );
+        say(line.as_bytes())?;
         assert!(self.compared > 0, "a comparison of nothing shows nothing");
-        self.differences == 0
+        Ok(self.differences == 0)
     }
 }
 
@@ -124,7 +132,7 @@ fn compare_bits(asker: &mut Asker, random: &mut Random, samples: u64) -> Result<
             probe::reversed(word(0), 64),
         );
     })?;
-    Ok(tally.end())
+    tally.end()
 }
 
 /// Every entry of the three tables. The original's digits are those of a group with no plain bits.
@@ -143,7 +151,7 @@ fn compare_tables(asker: &mut Asker) -> Result<bool, String> {
         tally.same(r, "trits", u16_at(a, 1), digits(3, 5, i));
         tally.same(r, "quints", u16_at(a, 3), digits(5, 3, i % 128));
     })?;
-    Ok(tally.end())
+    tally.end()
 }
 
 /// Every range, count and direction at both places where endpoints start, and every single value of every range.
@@ -183,7 +191,7 @@ fn compare_sequences(asker: &mut Asker, random: &mut Random, samples: u64) -> Re
         }
         tally.same(r, "values", &a[..72], &values[..]);
     })?;
-    Ok(tally.end())
+    tally.end()
 }
 
 /// All 65,536 halves.
@@ -205,10 +213,10 @@ fn compare_halves(asker: &mut Asker) -> Result<bool, String> {
             tally.same(r, "HDR byte", a[10 * i + 9], hdr);
         }
     })?;
-    Ok(tally.end())
+    tally.end()
 }
 
-/// What the answer holds of a legal block: the original's parameters, and the map by document 01.
+/// What the answer holds of a legal block: the original's parameters, and the map by docs/SCOPE.md.
 fn expected_params(block: &[u8], bw: usize, bh: usize) -> [u8; 26] {
     let p = probe::params(block, bw, bh);
     let range = p.weight_range % 8 - 2 + p.weight_range / 8 * 6;
@@ -302,7 +310,7 @@ fn compare_params(asker: &mut Asker, random: &mut Random, samples: u64) -> Resul
     for answer in [0, 1, 10, 11, 12, 13, 14, 15, 16] {
         assert!(seen[answer], "no block with answer {answer} was compared");
     }
-    Ok(tally.end())
+    tally.end()
 }
 
 fn values_of(mode: usize) -> usize {
@@ -377,7 +385,7 @@ fn compare_endpoints(asker: &mut Asker, random: &mut Random, samples: u64) -> Re
         elevens.iter().all(|&s| s),
         "a sub-mode or major component of mode 11 was not compared"
     );
-    Ok(tally.end())
+    tally.end()
 }
 
 /// Every value of every range, and every grid, range and plane count at every footprint.
@@ -423,7 +431,7 @@ fn compare_weights(asker: &mut Asker, random: &mut Random, samples: u64) -> Resu
         }
         tally.same(r, "weights", &a[..], &all[..]);
     })?;
-    Ok(tally.end())
+    tally.end()
 }
 
 /// Width, height, planes and range of each set of at most 64 weights, and at most 128 bits, that a footprint can have.
@@ -465,7 +473,7 @@ fn compare_partitions(asker: &mut Asker) -> Result<bool, String> {
             probe::partition(r.block(), r.number(3), r.number(4), r.number(2)).map(|p| p as u8);
         tally.same(r, "partition", &a[..144], &theirs[..]);
     })?;
-    Ok(tally.end())
+    tally.end()
 }
 
 /// All LDR pairs at all weights, and samples of pairs up to 286 and of HDR pairs.
@@ -511,7 +519,7 @@ fn compare_blends(asker: &mut Asker, random: &mut Random, samples: u64) -> Resul
         );
         tally.same(r, "HDR", &a[130..195], &all(4095, probe::blend_hdr)[..]);
     })?;
-    Ok(tally.end())
+    tally.end()
 }
 
 fn compare_colors(asker: &mut Asker, random: &mut Random, samples: u64) -> Result<bool, String> {
@@ -528,7 +536,7 @@ fn compare_colors(asker: &mut Asker, random: &mut Random, samples: u64) -> Resul
             color::color(red, green, blue, alpha),
         );
     })?;
-    Ok(tally.end())
+    tally.end()
 }
 
 /// All comparisons; whether every one found no difference.
@@ -538,7 +546,8 @@ pub fn compare(
     seed: u64,
     samples: u64,
 ) -> Result<bool, String> {
-    println!("the layers against the original, seed {seed}, samples {samples}");
+    let heading = format!("the layers against the original, seed {seed}, samples {samples}\n");
+    say(heading.as_bytes())?;
     let mut asker = Asker::start(program, arguments)?;
     let mut random = Random::new(seed);
     let results = [

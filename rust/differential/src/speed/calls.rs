@@ -3,6 +3,7 @@
 
 use super::kinds::{Kind, Source};
 use super::race::timed;
+use crate::screen::progress;
 use judge::archive;
 use model::blocks::Legal;
 use original::astc::decode_astc_block;
@@ -45,15 +46,16 @@ fn ratio(kind: Kind, (bw, bh): (usize, usize), runs: usize) -> Result<f64, Strin
 
 /// Times all kinds by calls of their own. No mark is set for them.
 pub fn measure(runs: usize) -> Result<(), String> {
-    println!("\nseeded blocks by calls of their own: ours/original, best of {runs} runs");
+    say!("\nseeded blocks by calls of their own: ours/original, best of {runs} runs");
     let names = Kind::ALL.map(|kind| format!("{:>7}", kind.name()));
-    println!("block {}", names.concat());
+    say!("block {}", names.concat());
     for (bw, bh) in FOOTPRINTS {
         let mut line = format!("{:<6}", format!("{bw}x{bh}"));
         for kind in Kind::ALL {
+            progress(|| format!("{} blocks at {bw}x{bh}", kind.name()));
             line += &format!("{:>7.2}", ratio(kind, (bw, bh), runs)?);
         }
-        println!("{line}");
+        say!("{line}");
     }
     Ok(())
 }

@@ -108,21 +108,21 @@ fn measure_picture(picture: &Picture, runs: usize) -> Result<Vec<Mark>, String> 
         })
     })?;
     let name = format!("{} as floats", picture.name);
-    println!("\n{name}, by the channels of its blocks; millions of texels a second, one thread, best of {runs} runs");
-    println!("block     ours  astcenc  ours/astcenc");
+    say!("\n{name}, by the channels of its blocks; millions of texels a second, one thread, best of {runs} runs");
+    say!("block     ours  astcenc  ours/astcenc");
     let mut ratios = Vec::new();
     for (race, (bw, bh)) in races.iter().zip(FOOTPRINTS) {
         let rate = |race: &Race, decoder| race.rate(decoder).expect("each had its turn");
         let (ours, astcenc) = (rate(race, Decoder::Ours), rate(race, Decoder::Astcenc));
         let ratio = ours / astcenc;
-        println!(
+        say!(
             "{:<7}{ours:>7.1} {astcenc:>8.1} {ratio:>13.2}",
             format!("{bw}x{bh}")
         );
         ratios.push(ratio);
     }
-    println!("{:<22} {:>13.2}", "geometric mean", mean(&ratios));
-    println!("{:<22} {:>13.2}", "least", least(&ratios));
+    say!("{:<22} {:>13.2}", "geometric mean", mean(&ratios));
+    say!("{:<22} {:>13.2}", "least", least(&ratios));
     Ok(vec![Mark::at_least(
         format!("{name}, ours/astcenc, least"),
         least(&ratios),

@@ -5,6 +5,7 @@ use super::race::Race;
 use super::rival::{Profile, Rival, THERE};
 use super::verdict::{least, mean, Mark};
 use super::words::{Canvas, Rates, Words};
+use crate::screen::progress;
 use model::blocks::Legal;
 use model::{Shape, FOOTPRINTS};
 
@@ -34,6 +35,7 @@ struct At {
 
 impl At {
     fn new((bw, bh): (usize, usize)) -> Self {
+        progress(|| format!("blocks are made at {bw}x{bh}"));
         let shape = Shape {
             width: SIDE,
             height: SIDE,
@@ -74,8 +76,9 @@ impl At {
 fn rates(runs: usize) -> Result<Vec<Row>, String> {
     let mut all = FOOTPRINTS.map(At::new);
     let mut canvas = Canvas::new(SIDE * SIDE);
-    for _ in 0..runs {
+    for run in 1..=runs {
         for at in &mut all {
+            progress(|| format!("{}x{}, run {run} of {runs}", at.shape.bw, at.shape.bh));
             at.turn(&mut canvas)?;
         }
     }
@@ -126,7 +129,7 @@ impl Table {
         let Some(lines) = rows.iter().map(numbers).collect::<Option<Vec<Vec<f64>>>>() else {
             return;
         };
-        println!("\nseeded blocks: {}", self.title);
+        say!("\nseeded blocks: {}", self.title);
         self.print_line("block", Kind::ALL.map(|kind| kind.name().to_string()));
         for (line, (bw, bh)) in lines.iter().zip(FOOTPRINTS) {
             self.print_numbers(&format!("{bw}x{bh}"), line.iter().copied());
@@ -147,7 +150,7 @@ impl Table {
 
     fn print_line(&self, name: &str, cells: impl IntoIterator<Item = String>) {
         let cells: String = cells.into_iter().map(|cell| format!("{cell:>7}")).collect();
-        println!("{name:<6}{cells}");
+        say!("{name:<6}{cells}");
     }
 }
 
@@ -172,11 +175,11 @@ fn marks(rows: &[Row]) -> Vec<Mark> {
 /// Times all kinds at all footprints; the marks that are set for them.
 pub fn measure(runs: usize) -> Result<Vec<Mark>, String> {
     let rows = rates(runs)?;
-    println!(
+    say!(
         "\nseeded legal blocks of each kind, in images of {SIDE}x{SIDE}; one thread, best of {runs} runs"
     );
     for line in LEGEND {
-        println!("  {line}");
+        say!("  {line}");
     }
     for table in TABLES {
         table.print(&rows);

@@ -3,6 +3,7 @@
 use super::kinds::{Kind, Source};
 use super::race::timed;
 use super::verdict::{most, Mark};
+use crate::screen::progress;
 use judge::archive;
 use model::blocks::Legal;
 use model::Shape;
@@ -59,7 +60,8 @@ fn times(footprint: (usize, usize)) -> Result<[Duration; 4], String> {
     let data = Source::new(Kind::Mixed, &legal).data(shape.blocks());
     let mut out = vec![1; shape.pixels()];
     let mut best = [Duration::MAX; 4];
-    for _ in 0..RUNS {
+    for run in 1..=RUNS {
+        progress(|| format!("{}x{}, run {run} of {RUNS}", shape.bw, shape.bh));
         for (best, side) in best.iter_mut().zip(SIDES) {
             let mut outcome = Ok(());
             let time = timed(|| outcome = paint(&data, shape, SIDES[3] / side, &mut out));
@@ -72,16 +74,16 @@ fn times(footprint: (usize, usize)) -> Result<[Duration; 4], String> {
 
 /// Times images of 1, 4, 16 and 64 times the blocks; the mark on what a block costs in the largest.
 pub fn measure() -> Result<Vec<Mark>, String> {
-    println!(
+    say!(
         "\nthe same mixed blocks, in images of 1, 4, 16 and 64 times the blocks; nanoseconds a block, best of {RUNS} runs"
     );
-    println!("block   largest        1x      4x     16x     64x   64x/1x");
+    say!("block   largest        1x      4x     16x     64x   64x/1x");
     let mut ratios = Vec::new();
     for footprint in FOOTPRINTS {
         let shape = largest(footprint);
         let each = times(footprint)?.map(|t| t.as_nanos() as f64 / shape.blocks() as f64);
         let ratio = each[3] / each[0];
-        println!(
+        say!(
             "{:<7} {:<9} {:>7.1} {:>7.1} {:>7.1} {:>7.1} {ratio:>8.2}",
             format!("{}x{}", shape.bw, shape.bh),
             format!("{}x{}", shape.width, shape.height),

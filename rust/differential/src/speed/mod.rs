@@ -16,6 +16,7 @@ mod threads;
 mod verdict;
 mod words;
 
+use crate::screen;
 use verdict::Mark;
 
 /// How often each decoder paints an image, where no other number is asked for.
@@ -108,10 +109,11 @@ pub fn measure(words: &[String]) -> Option<bool> {
     let wanted = Wanted::of(words)?;
     let mut marks = Vec::new();
     for part in wanted.parts {
+        screen::begin(part.name());
         match part.measure(wanted.runs) {
             Ok(more) => marks.extend(more),
             Err(difference) => {
-                println!("difference: {difference}");
+                say!("difference: {difference}");
                 return Some(false);
             }
         }

@@ -5,6 +5,7 @@ use super::race::Race;
 use super::rival::{self, Profile, Rival};
 use super::verdict::{least, mean, Mark};
 use super::words::{Canvas, Rates, Words};
+use crate::screen::progress;
 use model::{answer, Layout, Shape, FOOTPRINTS, HDR_MODES};
 use std::sync::OnceLock;
 
@@ -39,7 +40,7 @@ impl Mix {
     fn print(&self) {
         let share = |n: usize| 100.0 * n as f64 / self.all as f64;
         let [one, two, three, four] = self.parts.map(share);
-        println!(
+        say!(
             "blocks of one partition {one:.1} %, two {two:.1} %, three {three:.1} %, four {four:.1} %, void {:.1} %; of two planes \
              {:.1} %, HDR {:.1} %",
             share(self.void),
@@ -50,7 +51,7 @@ impl Mix {
 }
 
 fn print_rates(name: &str, rates: Rates) {
-    println!(
+    say!(
         "{name:<7}{:>7.1} {:>9.1} {:>8.1} {:>14.2} {:>13.2}",
         rates.ours,
         rates.original,
@@ -61,7 +62,7 @@ fn print_rates(name: &str, rates: Rates) {
 }
 
 fn print_ratios(name: &str, original: f64, astcenc: f64) {
-    println!("{name:<32} {original:>14.2} {astcenc:>13.2}");
+    say!("{name:<32} {original:>14.2} {astcenc:>13.2}");
 }
 
 /// The ratios to the original, and to astcenc.
@@ -112,7 +113,10 @@ impl Picture {
     fn data(&self) -> &[Vec<u8>] {
         self.data.get_or_init(|| {
             let drawn = drawing::drawn(self.width, self.height);
-            let encode = |f| rival::encoded(&drawn, self.profile, self.shape(f));
+            let encode = |(bw, bh)| {
+                progress(|| format!("{} is encoded at {bw}x{bh}", self.name));
+                rival::encoded(&drawn, self.profile, self.shape((bw, bh)))
+            };
             FOOTPRINTS.map(encode).into()
         })
     }
@@ -138,8 +142,9 @@ impl Picture {
             |(data, footprint): (&Vec<u8>, _)| Race::new(data.clone(), self.shape(footprint));
         let mut races: Vec<_> = data.map(race).collect();
         let mut rivals = FOOTPRINTS.map(|f| Rival::new(f, self.profile));
-        for _ in 0..runs {
+        for run in 1..=runs {
             for ((race, rival), (bw, bh)) in races.iter_mut().zip(&mut rivals).zip(FOOTPRINTS) {
+                progress(|| format!("{} at {bw}x{bh}, run {run} of {runs}", self.name));
                 turn(race, rival.as_mut())
                     .map_err(|difference| format!("{} at {bw}x{bh}: {difference}", self.name))?;
             }
@@ -155,11 +160,11 @@ impl Picture {
     }
 
     fn print(&self, all: &[Rates], runs: usize) {
-        println!(
+        say!(
             "\n{}, {}x{}, encoded by astcenc at medium quality; millions of texels a second, one thread, best of {runs} runs",
             self.name, self.width, self.height
         );
-        println!("block     ours  original  astcenc  ours/original  ours/astcenc");
+        say!("block     ours  original  astcenc  ours/original  ours/astcenc");
         for ((bw, bh), &rates) in FOOTPRINTS.iter().zip(all) {
             print_rates(&format!("{bw}x{bh}"), rates);
         }
@@ -184,7 +189,7 @@ impl Picture {
     /// Whether astcenc was there to encode it; says so if it was not.
     pub fn is_there(&self) -> bool {
         if !rival::THERE {
-            println!(
+            say!(
                 "\n{} is left out: astcenc, which encodes it, was not there to build with",
                 self.name
             );

@@ -2,6 +2,7 @@
 
 use super::kinds::{Kind, Source};
 use super::verdict::{most, Mark};
+use crate::screen::progress;
 use judge::archive;
 use model::blocks::Legal;
 use model::random::Random;
@@ -88,6 +89,7 @@ fn images() -> Vec<(Vec<u8>, Shape)> {
     let mut images = Vec::new();
     let random = &mut Random::new(1);
     for (bw, bh) in FOOTPRINTS {
+        progress(|| format!("blocks are made at {bw}x{bh}"));
         let shape = Shape {
             width: SIDE * bw - 1,
             height: SIDE * bh - 1,
@@ -157,10 +159,10 @@ fn functions() -> [(&'static str, usize); 5] {
 
 /// Measures the stack of the functions; the mark on it.
 pub fn measure() -> Vec<Mark> {
-    println!("\nbytes of stack, at most, over blocks and images of all kinds at all footprints");
+    say!("\nbytes of stack, at most, over blocks and images of all kinds at all footprints");
     let functions = functions();
     for (name, bytes) in functions {
-        println!("{name:<20}{bytes:>6}");
+        say!("{name:<20}{bytes:>6}");
     }
     let largest = most(&functions.map(|(_, bytes)| bytes as f64));
     vec![Mark::at_most("bytes of stack, most", largest, MOST as f64)]

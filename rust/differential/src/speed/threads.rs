@@ -1,6 +1,7 @@
 //! What a second thread gains.
 
 use super::kinds::{Kind, Source};
+use crate::screen::progress;
 use astc::{decode_image_by_threads, Footprint};
 use judge::archive;
 use model::blocks::Legal;
@@ -33,7 +34,8 @@ fn times((bw, bh): (usize, usize), runs: usize) -> Result<[Duration; 3], String>
     let mut whole = vec![1; shape.pixels()];
     let mut parts = vec![1; shape.pixels()];
     let mut best = [Duration::MAX; 3];
-    for _ in 0..runs {
+    for run in 1..=runs {
+        progress(|| format!("{bw}x{bh}, run {run} of {runs}"));
         let mut number = 0;
         let time = taken(|| number = archive::decode_image(&data, shape, &mut whole));
         best[0] = time.min(best[0]);
@@ -57,14 +59,14 @@ fn times((bw, bh): (usize, usize), runs: usize) -> Result<[Duration; 3], String>
 
 /// Times images by one thread and by two, in millions of texels a second.
 pub fn measure(runs: usize) -> Result<(), String> {
-    println!(
+    say!(
         "\nmixed blocks, {SIDE}x{SIDE}; millions of texels a second by the time of day, best of {runs} runs, for two idle cores"
     );
-    println!("block   at once   1 thread   2 threads   2 threads/at once");
+    say!("block   at once   1 thread   2 threads   2 threads/at once");
     for (bw, bh) in FOOTPRINTS {
         let [whole, one, two] =
             times((bw, bh), runs)?.map(|t| (SIDE * SIDE) as f64 / t.as_secs_f64() / 1e6);
-        println!(
+        say!(
             "{:<7} {whole:>7.1} {one:>10.1} {two:>11.1} {:>19.2}",
             format!("{bw}x{bh}"),
             two / whole

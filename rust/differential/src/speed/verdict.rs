@@ -59,13 +59,13 @@ pub fn print(marks: &[Mark]) {
     if marks.is_empty() {
         return;
     }
-    println!("\nmarks");
+    say!("\nmarks");
     for mark in marks {
         let (met, wanted) = mark.verdict();
         let word = if met { "met" } else { "missed" };
         let number = format!("{:.2}", mark.number);
         let number = number.trim_end_matches(".00");
-        println!("{}: {number}, {wanted}: mark {word}", mark.what);
+        say!("{}: {number}, {wanted}: mark {word}", mark.what);
     }
 }
 
