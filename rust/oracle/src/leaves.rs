@@ -23,6 +23,16 @@ type Answer = [u8; ANSWER];
 /// The differences that a comparison shows; it counts the others.
 const SHOWN: u64 = 3;
 
+/// Ends a comparison whose samples had not all that they must have.
+fn all_seen(seen: &[bool], what: &str) -> Result<(), String> {
+    match seen.iter().all(|&one| one) {
+        true => Ok(()),
+        false => Err(format!(
+            "the samples are too few (--samples), and have not all {what}"
+        )),
+    }
+}
+
 /// Counts what was compared, and keeps the first differences to be shown.
 struct Tally {
     name: &'static str,
@@ -62,12 +72,12 @@ impl Tally {
 
     /// Prints the differences and the count; whether there was no difference.
     fn end(self) -> Result<bool, String> {
+        all_seen(&[self.compared > 0], self.name)?;
         let line = format!(
             "{}{}: {} compared, {} differences\n",
             self.shown, self.name, self.compared, self.differences
         );
         say(line.as_bytes())?;
-        assert!(self.compared > 0, "a comparison of nothing shows nothing");
         Ok(self.differences == 0)
     }
 }
@@ -377,14 +387,8 @@ fn compare_endpoints(asker: &mut Asker, random: &mut Random, samples: u64) -> Re
             }
         }
     })?;
-    assert!(
-        sevens.iter().all(|&s| s),
-        "a sub-mode of mode 7 was not compared"
-    );
-    assert!(
-        elevens.iter().all(|&s| s),
-        "a sub-mode or major component of mode 11 was not compared"
-    );
+    all_seen(&sevens, "sub-modes of mode 7")?;
+    all_seen(&elevens, "sub-modes and major components of mode 11")?;
     tally.end()
 }
 
