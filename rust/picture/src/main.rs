@@ -1,18 +1,31 @@
-//! Makes a picture of an .astc file: `picture IN.astc OUT.png`, or a PAM file where the name ends in `.pam`, or a PFM file where it ends
-//! in `.pfm`, which holds floats and so what lies above 1.0.
-//!
-//! It says how many blocks break a rule and are magenta, and of a PFM file how many pixels lie above 1.0 in red, green or blue. Its
-//! status is 0 for a picture, 1 for a file that cannot be read, is no 2D .astc file or cannot be written, and 2 for other words on the
-//! command line.
+//! Makes a picture of an .astc file. `picture --help` says how.
 
 use astc::{block_map, image_channels, Answer, Channel, Cursor};
 use picture::container::{self, Container};
 use picture::{pfm, png};
+use std::ffi::OsString;
 use std::io::{self, IsTerminal, Write};
+use std::path::Path;
 use std::process::ExitCode;
 use std::{env, fs};
 
-const USAGE: &str = "usage: picture IN.astc OUT.png, or OUT.pam, or OUT.pfm for floats";
+const USAGE: &str =
+    "usage: picture IN.astc OUT.png, or OUT.pam, or OUT.pfm for floats, or picture --help";
+
+const HELP: &str = "\
+Makes a picture of an .astc file, as astcenc writes it.
+
+    picture IN.astc OUT.png    a PNG file, with alpha where a pixel is not opaque
+    picture IN.astc OUT.pam    a PAM file
+    picture IN.astc OUT.pfm    a PFM file of floats, which keeps what lies above 1.0 and leaves alpha out
+    picture --help             says this
+
+It says how many blocks break a rule and are magenta, and of a PFM file how many pixels lie above 1.0 in red, green or blue. On a
+terminal it shows how far it is with a larger image, on standard error.
+
+The status is 0 for a picture, 1 for a file that cannot be read, is no 2D .astc file or cannot be written, and 2 for other words on
+the command line.
+";
 
 /// The blocks of a step: often enough for a person to see it move.
 const BLOCKS: usize = 1 << 14;
@@ -75,57 +88,109 @@ fn floats(container: &Container) -> Result<(Vec<[f32; 3]>, usize), Answer> {
     Ok((pixels, bad))
 }
 
-/// The file of a picture, how many blocks broke a rule and, where it has floats, how many pixels lie above 1.0.
-fn picture(container: &Container, output: &str) -> Result<(Vec<u8>, usize, Option<usize>), Answer> {
-    let (width, height) = (container.width, container.height);
-    if output.ends_with(".pfm") {
-        let (pixels, bad) = floats(container)?;
-        let above = pixels.iter().filter(|p| pfm::is_above_one(p)).count();
-        return Ok((pfm::pfm(&pixels, width, height), bad, Some(above)));
-    }
-    let (words, bad) = words(container)?;
-    let file = if output.ends_with(".pam") {
-        png::pam(&words, width, height)
-    } else {
-        png::png(&words, width, height)
-    };
-    Ok((file, bad, None))
+/// What a picture is written as.
+#[derive(Clone, Copy)]
+enum Kind {
+    Png,
+    Pam,
+    Pfm,
 }
 
-fn run(input: &str, output: &str) -> Result<(), String> {
-    let file = fs::read(input).map_err(|e| format!("{input} was not read: {e}"))?;
-    let container = container::read(&file).map_err(|fault| format!("{input}: {fault}"))?;
-    let (picture, bad, above) =
-        picture(&container, output).map_err(|refusal| format!("{input}: {refusal}"))?;
-    fs::write(output, picture).map_err(|e| format!("{output} was not written: {e}"))?;
+impl Kind {
+    /// As the name of the file says.
+    fn of(output: &Path) -> Option<Kind> {
+        match output.extension()?.to_str()? {
+            "png" => Some(Kind::Png),
+            "pam" => Some(Kind::Pam),
+            "pfm" => Some(Kind::Pfm),
+            _ => None,
+        }
+    }
+}
+
+/// A picture that was made.
+struct Made {
+    file: Vec<u8>,
+    /// How many blocks broke a rule.
+    bad: usize,
+    /// Where it has floats, how many pixels lie above 1.0.
+    above: Option<usize>,
+}
+
+fn make(container: &Container, kind: Kind) -> Result<Made, Answer> {
+    let (width, height) = (container.width, container.height);
+    let of_words = |write: fn(&[u32], usize, usize) -> Vec<u8>| {
+        let (words, bad) = words(container)?;
+        Ok(Made {
+            file: write(&words, width, height),
+            bad,
+            above: None,
+        })
+    };
+    match kind {
+        Kind::Png => of_words(png::png),
+        Kind::Pam => of_words(png::pam),
+        Kind::Pfm => {
+            let (pixels, bad) = floats(container)?;
+            let above = pixels.iter().filter(|p| pfm::is_above_one(p)).count();
+            Ok(Made {
+                file: pfm::pfm(&pixels, width, height),
+                bad,
+                above: Some(above),
+            })
+        }
+    }
+}
+
+/// Writes to standard output.
+fn say(words: &str) -> Result<(), String> {
+    let mut out = io::stdout();
+    out.write_all(words.as_bytes())
+        .and_then(|()| out.flush())
+        .map_err(|error| format!("standard output was not written: {error}"))
+}
+
+fn run(input: &Path, output: &Path, kind: Kind) -> Result<(), String> {
+    let (from, to) = (input.display(), output.display());
+    let file = fs::read(input).map_err(|error| format!("{from} was not read: {error}"))?;
+    let container = container::read(&file).map_err(|fault| format!("{from}: {fault}"))?;
+    let made = make(&container, kind).map_err(|refusal| format!("{from}: {refusal}"))?;
+    fs::write(output, made.file).map_err(|error| format!("{to} was not written: {error}"))?;
     let (width, height) = (container.width, container.height);
     let (footprint, total) = (container.footprint, container.blocks.len() / 16);
-    let mut said =
-        format!("{width}x{height} pixels, {total} blocks of {footprint}, {bad} of them magenta\n");
-    if let Some(above) = above {
+    let mut said = format!(
+        "{width}x{height} pixels, {total} blocks of {footprint}, {} of them magenta\n",
+        made.bad
+    );
+    if let Some(above) = made.above {
         said += &format!("{above} pixels above 1.0\n");
     }
-    let mut out = io::stdout();
-    out.write_all(said.as_bytes())
-        .and_then(|()| out.flush())
-        .map_err(|e| format!("standard output was not written: {e}"))
+    say(&said)
+}
+
+/// Does what the words ask for, or nothing if they ask for nothing known.
+fn obey(words: &[OsString]) -> Option<Result<(), String>> {
+    match words {
+        [word] if word == "--help" || word == "-h" => Some(say(HELP)),
+        [input, output] => {
+            let kind = Kind::of(Path::new(output))?;
+            Some(run(Path::new(input), Path::new(output), kind))
+        }
+        _ => None,
+    }
 }
 
 fn main() -> ExitCode {
-    let words: Vec<String> = env::args().skip(1).collect();
-    let [input, output] = words.as_slice() else {
-        eprintln!("{USAGE}");
-        return ExitCode::from(2);
-    };
-    if ![".png", ".pam", ".pfm"].iter().any(|e| output.ends_with(e)) {
-        eprintln!("{USAGE}");
-        return ExitCode::from(2);
-    }
-    match run(input, output) {
-        Ok(()) => ExitCode::SUCCESS,
-        Err(message) => {
-            eprintln!("picture: {message}");
+    let words: Vec<OsString> = env::args_os().skip(1).collect();
+    match obey(&words) {
+        Some(Ok(())) => ExitCode::SUCCESS,
+        Some(Err(reason)) => {
+            eprintln!("picture: {reason}");
             ExitCode::from(1)
+        }
+        None => {
+            eprintln!("{USAGE}");
+            ExitCode::from(2)
         }
     }
 }

@@ -1,4 +1,4 @@
-//! The program's PFM files, and what it says of them.
+//! The program's files, what it says of them, and what it makes of other words.
 
 use astc::{decode_image, image_channels, Channel, Footprint};
 use picture::container;
@@ -9,11 +9,12 @@ use std::process::{Command, Output};
 mod common;
 use common::{float, halves, scratch, stored};
 
-fn run(input: &Path, output: &Path) -> Output {
+fn program() -> Command {
     Command::new(env!("CARGO_BIN_EXE_picture"))
-        .args([input, output])
-        .output()
-        .unwrap()
+}
+
+fn run(input: &Path, output: &Path) -> Output {
+    program().args([input, output]).output().unwrap()
 }
 
 /// What the program says of a file, and the floats' bits of its PFM file, the top row first.
@@ -136,6 +137,26 @@ fn bands_make_one_picture() {
         .map(|p| [p[0], p[1], p[2]].map(|channel| channel.to_f32().to_bits()));
     assert!(pixels.iter().copied().eq(wanted));
     assert!(said.starts_with("4094x66 pixels, 17408 blocks of 4x4, 0 of them magenta\n"));
+}
+
+#[test]
+fn help_goes_to_standard_output() {
+    for word in ["--help", "-h"] {
+        let said = program().arg(word).output().unwrap();
+        assert_eq!(said.status.code(), Some(0));
+        assert!(said.stdout.starts_with(b"Makes a picture of an .astc file"));
+        assert!(said.stderr.is_empty());
+    }
+}
+
+#[test]
+fn other_words_are_refused() {
+    for words in [&[][..], &["in.astc"], &["in.astc", "out.png", "more"]] {
+        let said = program().args(words).output().unwrap();
+        assert_eq!(said.status.code(), Some(2));
+        assert!(said.stdout.is_empty());
+        assert!(said.stderr.starts_with(b"usage: picture IN.astc OUT.png"));
+    }
 }
 
 #[test]
