@@ -1,9 +1,15 @@
-//! Draws the pictures that the stored .astc files are made of, in a file that astcenc reads: `draw OUT.png`, or `draw OUT.ktx` for the
-//! HDR one.
+//! Draws the pictures that the stored .astc files are made of, in files that astcenc reads: `draw small OUT.png`, `draw light OUT.ktx`
+//! for the HDR one, and `draw scene OUT.png`.
 //!
-//! They have smooth parts, sharp edges, fine stripes and an alpha that changes, so that an encoder uses many kinds of blocks.
+//! The first two have smooth parts, sharp edges, fine stripes and an alpha that changes, so that an encoder uses many kinds of blocks.
+
+mod scene;
 
 use picture::png::png;
+use std::process::ExitCode;
+use std::{env, fs};
+
+const USAGE: &str = "usage: draw small OUT.png, or draw light OUT.ktx, or draw scene OUT.png";
 
 const WIDTH: usize = 61;
 const HEIGHT: usize = 47;
@@ -73,20 +79,38 @@ fn ktx(pixels: &[[f32; 4]], width: usize, height: usize) -> Vec<u8> {
 }
 
 /// What a function gives for each pixel, row by row.
-fn drawn<P>(of: fn(usize, usize) -> P) -> Vec<P> {
-    (0..WIDTH * HEIGHT)
-        .map(|k| of(k % WIDTH, k / WIDTH))
+fn drawn<P>(width: usize, height: usize, of: fn(usize, usize) -> P) -> Vec<P> {
+    (0..width * height)
+        .map(|k| of(k % width, k / width))
         .collect()
 }
 
-fn main() -> std::io::Result<()> {
-    let name = std::env::args()
-        .nth(1)
-        .expect("usage: draw OUT.png, or OUT.ktx");
-    let file = if name.ends_with(".ktx") {
-        ktx(&drawn(light), WIDTH, HEIGHT)
-    } else {
-        png(&drawn(pixel), WIDTH, HEIGHT)
+/// The file of a picture, if there is one of that name.
+fn file(name: &str) -> Option<Vec<u8>> {
+    let (width, height) = (scene::WIDTH, scene::HEIGHT);
+    match name {
+        "small" => Some(png(&drawn(WIDTH, HEIGHT, pixel), WIDTH, HEIGHT)),
+        "light" => Some(ktx(&drawn(WIDTH, HEIGHT, light), WIDTH, HEIGHT)),
+        "scene" => Some(png(&drawn(width, height, scene::pixel), width, height)),
+        _ => None,
+    }
+}
+
+fn main() -> ExitCode {
+    let words: Vec<String> = env::args().skip(1).collect();
+    let (file, out) = match words.as_slice() {
+        [name, out] => (file(name), out),
+        _ => (None, &String::new()),
     };
-    std::fs::write(name, file)
+    let Some(file) = file else {
+        eprintln!("{USAGE}");
+        return ExitCode::from(2);
+    };
+    match fs::write(out, file) {
+        Ok(()) => ExitCode::SUCCESS,
+        Err(error) => {
+            eprintln!("draw: {out} was not written: {error}");
+            ExitCode::FAILURE
+        }
+    }
 }
