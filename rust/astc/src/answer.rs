@@ -88,7 +88,7 @@ macro_rules! answers {
 }
 
 answers! {
-    /// A legal block, painted; or an image or a step that was accepted.
+    /// A legal block, painted. C functions also answer so for an image or a step that was accepted.
     Legal = 0: "the block is legal, or the image or step was accepted",
     /// A void-extent block, painted in its one colour.
     VoidExtent = 1: "the block is a void-extent block of one colour",

@@ -12,6 +12,10 @@
 //! Words end at 1.0. [`block_channels`] and [`image_channels`] give what lies above it too: each channel as a byte or, where
 //! the block is HDR, as an `f32`.
 //!
+//! The build script links the archive of the decoder. It is `libastc.a` in the folder that the variable `ASTC_ARCHIVE` names, or in
+//! `target/native` of the repository, where the script has `tools/archive` prove and write it, which takes some minutes the first
+//! time and needs the Rattle kit.
+//!
 //! ```
 //! use astc::{decode_block, Answer, Footprint};
 //! let block = [0x42, 0, 0, 0xfe, 1, 0, 0, 0, 0, 0, 0, 0, 0, 0, 0, 0xe0];

@@ -50,6 +50,8 @@ impl fmt::Display for Fault {
     }
 }
 
+impl std::error::Error for Fault {}
+
 const MAGIC: [u8; 4] = [0x13, 0xab, 0xa1, 0x5c];
 
 /// A number of three bytes, the low one first.

@@ -96,15 +96,19 @@ fn file(name: &str) -> Option<Vec<u8>> {
     }
 }
 
+/// Says what is known.
+fn refuse() -> ExitCode {
+    eprintln!("{USAGE}");
+    ExitCode::from(2)
+}
+
 fn main() -> ExitCode {
     let words: Vec<String> = env::args().skip(1).collect();
-    let (file, out) = match words.as_slice() {
-        [name, out] => (file(name), out),
-        _ => (None, &String::new()),
+    let [name, out] = words.as_slice() else {
+        return refuse();
     };
-    let Some(file) = file else {
-        eprintln!("{USAGE}");
-        return ExitCode::from(2);
+    let Some(file) = file(name) else {
+        return refuse();
     };
     match fs::write(out, file) {
         Ok(()) => ExitCode::SUCCESS,

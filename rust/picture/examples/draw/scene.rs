@@ -44,7 +44,8 @@ fn shade(x: f32, y: f32) -> f32 {
     0.78 * smooth(1.0, 0.0, (dx * dx + dy * dy).sqrt())
 }
 
-/// Where the light comes from, and where between it and the eye a mirror would have to look; of length 1.
+/// Where the light comes from, and where a surface looks that would mirror it to the eye, halfway between the two. Both have about the
+/// length 1.
 const LIGHT: [f32; 3] = [-0.50, -0.62, 0.60];
 const HALFWAY: [f32; 3] = [-0.28, -0.347, 0.895];
 
