@@ -21,7 +21,9 @@ decode-channels-requires : tie.Need-decode-channels-requires
 decode-channels-requires c κs = search needs
 
 cast-result-2 : tie.Need-cast-result-2
-cast-result-2 c = let d = c .before .before .before .before .decode-channels in let l : d .result < 23 = rw (d .ensures .0) (answer-small _ _ _) in omega (arith, l)
+cast-result-2 c =
+    let after-decode-channels = c .before .before .before .before in
+    let d = after-decode-channels .decode-channels in let l : d .result < 23 = rw (d .ensures .0) (answer-small _ _ _) in omega (arith, l)
 
 same-length : tie.Need-same-length
 same-length c = search needs
@@ -31,10 +33,11 @@ same-length-2 c = search needs
 
 returns-2 : tie.Need-returns-2
 returns-2 c =
-    let decoded = c .before .before .before .before in
-    let tested = decoded .before .before .before in
-    let start = tested .before .before .before .before .before in
-    answered _ _ _ (start .args .channels .now) (start .args .floats .now) _ (tested .before .options-refusal .ensures) _ _ _ (tested .if1 .left) (decoded .decode-channels .ensures)
+    let after-decode-channels = c .before .before .before .before in
+    let at-if1 = after-decode-channels .before .before .before in
+    let after-options-refusal = at-if1 .before in
+    let at-start = after-options-refusal .before .before .before .before in
+    answered _ _ _ (at-start .args .channels .now) (at-start .args .floats .now) _ (after-options-refusal .options-refusal .ensures) _ _ _ (at-if1 .if1 .left) (after-decode-channels .decode-channels .ensures)
 
 pub astc-block-channels-spec : {M : Type 1} → statement M
 astc-block-channels-spec =

@@ -22,11 +22,14 @@ step-requires c κs = search needs
 
 put-led-requires : tie.Need-put-led-requires
 put-led-requires c κs =
-    let tested = c .before .before .before .before .before .before in
-    three-places _ _ _ _ _ (tested .before .places-refusal .ensures) (tested .if1 .left)
+    let at-if1 = c .before .before .before .before .before .before in
+    let after-places-refusal = at-if1 .before in
+    three-places _ _ _ _ _ (after-places-refusal .places-refusal .ensures) (at-if1 .if1 .left)
 
 cast-result-2 : tie.Need-cast-result-2
-cast-result-2 c = let d = c .before .before .before .before .before .before .before .before .step in let l : d .result .answer < 35 = rw (d .ensures .0) (step-small _ _ _ _) in omega (arith, l)
+cast-result-2 c =
+    let after-step = c .before .before .before .before .before .before .before .before in
+    let d = after-step .step in let l : d .result .answer < 35 = rw (d .ensures .0) (step-small _ _ _ _) in omega (arith, l)
 
 same-length : tie.Need-same-length
 same-length c = search needs
@@ -36,9 +39,11 @@ same-length-2 c = search needs
 
 returns-2 : tie.Need-returns-2
 returns-2 c =
-    let stepped = c .before .before .before .before .before .before .before .before in
-    let tested = stepped .before .before in
-    stepped-on _ _ _ _ _ _ (tested .before .places-refusal .ensures) _ _ _ (tested .if1 .left) (stepped .step .ensures .0) (stepped .step .ensures .1) (c .before .before .before .put-led .ensures)
+    let after-put-led = c .before .before .before in
+    let after-step = after-put-led .before .before .before .before .before in
+    let at-if1 = after-step .before .before in
+    let after-places-refusal = at-if1 .before in
+    stepped-on _ _ _ _ _ _ (after-places-refusal .places-refusal .ensures) _ _ _ (at-if1 .if1 .left) (after-step .step .ensures .0) (after-step .step .ensures .1) (after-put-led .put-led .ensures)
 
 pub astc-image-step-spec : {M : Type 1} → statement M
 astc-image-step-spec =

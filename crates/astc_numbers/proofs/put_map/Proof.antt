@@ -12,10 +12,14 @@ returns : tie.Need-returns
 returns c = refused _ _ (c .before .before .block-map .ensures) _ (c .if1 .taken)
 
 returns-2 : tie.Need-returns-2
-returns-2 c = no-room _ _ (c .before .before .before .block-map .ensures) _ (c .before .if1 .left) (c .if2 .taken)
+returns-2 c =
+    let after-block-map = c .before .before .before in
+    no-room _ _ (after-block-map .block-map .ensures) _ (c .before .if1 .left) (c .if2 .taken)
 
 numbers-of-requires : tie.Need-numbers-of-requires
-numbers-of-requires c κs = rw (c .before .before .before .block-map .ensures) (map-small _ _)
+numbers-of-requires c κs =
+    let after-block-map = c .before .before .before in
+    rw (after-block-map .block-map .ensures) (map-small _ _)
 
 put-numbers-requires : tie.Need-put-numbers-requires
 put-numbers-requires c κs = search needs
@@ -25,8 +29,12 @@ same-length c = search needs
 
 returns-3 : tie.Need-returns-3
 returns-3 c =
-    let s = c .before .before .before .before .before in
-    written _ _ (s .before .before .before .before .block-map .ensures) _ _ _ (s .before .before .if1 .left) (s .before .if2 .left) (s .numbers-of .ensures) (c .before .before .put-numbers .ensures)
+    let after-put-numbers = c .before .before in
+    let after-numbers-of = after-put-numbers .before .before .before in
+    let at-if2 = after-numbers-of .before in
+    let at-if1 = at-if2 .before in
+    let after-block-map = at-if1 .before .before in
+    written _ _ (after-block-map .block-map .ensures) _ _ _ (at-if1 .if1 .left) (at-if2 .if2 .left) (after-numbers-of .numbers-of .ensures) (after-put-numbers .put-numbers .ensures)
 
 pub put-map-spec : {M : Type 1} → statement M
 put-map-spec =

@@ -27,7 +27,10 @@ mul-out-2 : tie.Need-mul-out-2 Inv-loop μ-loop
 mul-out-2 c = omega arith
 
 slice-write-out : tie.Need-slice-write-out Inv-loop μ-loop
-slice-write-out c = let l = c .before .before .loop in omega (arith, ap length (l .inv .1), length-put (λ (k : ℕ). getD (c .before .before .before .args .n .now) k 0) 0 (l .i) (c .before .before .before .args .out .now))
+slice-write-out c =
+    let at-loop = c .before .before in
+    let at-start = at-loop .before in
+    let l = at-loop .loop in omega (arith, ap length (l .inv .1), length-put (λ (k : ℕ). getD (at-start .args .n .now) k 0) 0 (l .i) (at-start .args .out .now))
 
 add-i : tie.Need-add-i Inv-loop μ-loop
 add-i c = omega arith

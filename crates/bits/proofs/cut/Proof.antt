@@ -27,7 +27,9 @@ getbits-requires-2 : tie.Need-getbits-requires-2
 getbits-requires-2 c κs = search needs
 
 returns-2 : tie.Need-returns-2
-returns-2 c = let a = c .before .before .before .before .args in
+returns-2 c =
+    let at-start = c .before .before .before .before in
+    let a = at-start .args in
     let e : (a .len - 64) + 64 ≡ a .len = omega arith in
     rw (c .getbits2 .ensures .0, c .before .from .ensures) (sym (rw e at (join (valueOf (a .b)) (a .start) 64 (a .len - 64))))
 
@@ -41,7 +43,9 @@ from-requires-3 : tie.Need-from-requires-3
 from-requires-3 c κs = search needs
 
 returns-3 : tie.Need-returns-3
-returns-3 c = let a = c .before .before .before .before .args in
+returns-3 c =
+    let at-start = c .before .before .before .before in
+    let a = at-start .args in
     rw (c .from3 .ensures, c .before .from2 .ensures)
     (sym (bits-longer (valueOf (a .b)) (a .start) 128 (a .len) (words-lt (a .b .hi) (a .b .lo) (omega arith) (omega arith)) (omega arith) ∙ join (valueOf (a .b)) (a .start) 64 64))
 

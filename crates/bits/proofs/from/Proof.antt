@@ -30,10 +30,14 @@ shr-result-2 : tie.Need-shr-result-2
 shr-result-2 c = search needs
 
 returns-3 : tie.Need-returns-3
-returns-3 c = let a = c .before .before .before .args in sym (high-only (a .b .hi) (a .b .lo) (a .start) (omega arith) (omega arith) (omega arith))
+returns-3 c =
+    let at-start = c .before .before .before in
+    let a = at-start .args in sym (high-only (a .b .hi) (a .b .lo) (a .start) (omega arith) (omega arith) (omega arith))
 
 returns-4 : tie.Need-returns-4
-returns-4 c = let a = c .before .before .before .args in sym (bits-past (valueOf (a .b)) (a .start) 64 128 (words-lt (a .b .hi) (a .b .lo) (omega arith) (omega arith)) (omega arith))
+returns-4 c =
+    let at-start = c .before .before .before in
+    let a = at-start .args in sym (bits-past (valueOf (a .b)) (a .start) 64 128 (words-lt (a .b .hi) (a .b .lo) (omega arith) (omega arith)) (omega arith))
 
 pub from-spec : {M : Type 1} → statement M
 from-spec =

@@ -25,7 +25,9 @@ shr-t10 : tie.Need-shr-t10
 shr-t10 c = search needs
 
 returns : tie.Need-returns
-returns c = let a = c .before .before .before .args in skipped (a .b .hi) (a .b .lo) (a .n) (64 - a .n) (omega arith) (omega arith)
+returns c =
+    let at-start = c .before .before .before in
+    let a = at-start .args in skipped (a .b .hi) (a .b .lo) (a .n) (64 - a .n) (omega arith) (omega arith)
 
 pub skip-spec : {M : Type 1} → statement M
 skip-spec = tie.close (tie.spec shr-t4 sub-t5 shl-t7 add-t8 shr-t10 returns)

@@ -73,17 +73,24 @@ add-result-7 c = search needs
 
 returns : tie.Need-returns
 returns c =
+    let after-reverse86 = c .before .before in
+    let after-reverse85 = after-reverse86 .before in
+    let after-reverse84 = after-reverse85 .before in
+    let after-reverse83 = after-reverse84 .before in
+    let after-reverse82 = after-reverse83 .before in
+    let after-reverse8 = after-reverse82 .before in
+    let at-start = after-reverse8 .before in
     rw (
-      c .before .before .before .before .before .before .before .reverse8 .ensures .0,
-      c .before .before .before .before .before .before .reverse82 .ensures .0,
-      c .before .before .before .before .before .reverse83 .ensures .0,
-      c .before .before .before .before .reverse84 .ensures .0,
-      c .before .before .before .reverse85 .ensures .0,
-      c .before .before .reverse86 .ensures .0,
+      after-reverse8 .reverse8 .ensures .0,
+      after-reverse82 .reverse82 .ensures .0,
+      after-reverse83 .reverse83 .ensures .0,
+      after-reverse84 .reverse84 .ensures .0,
+      after-reverse85 .reverse85 .ensures .0,
+      after-reverse86 .reverse86 .ensures .0,
       c .before .reverse87 .ensures .0,
       c .reverse88 .ensures .0,
     )
-    (sym (reversed-bytes (c .before .before .before .before .before .before .before .before .args .x)))
+    (sym (reversed-bytes (at-start .args .x)))
 
 pub bit-reverse-u64-spec : {M : Type 1} → statement M
 bit-reverse-u64-spec =

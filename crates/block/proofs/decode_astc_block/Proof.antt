@@ -22,8 +22,10 @@ same-length c = search needs
 
 returns-2 : tie.Need-returns-2
 returns-2 c =
-    let checked = c .before .before .before .before in
-    painted _ _ _ _ _ (sym (checked .before .refusal .ensures) ∙ checked .if1 .left) (c .before .before .decode-words .ensures)
+    let after-decode-words = c .before .before in
+    let at-if1 = after-decode-words .before .before in
+    let after-refusal = at-if1 .before in
+    painted _ _ _ _ _ (sym (after-refusal .refusal .ensures) ∙ at-if1 .if1 .left) (after-decode-words .decode-words .ensures)
 
 pub decode-astc-block-spec : {M : Type 1} → statement M
 decode-astc-block-spec = tie.close (tie.spec refusal-requires returns decode-words-requires same-length returns-2)

@@ -10,7 +10,9 @@ use Rattle.block.proofs.decode_words.Statement.{statement}
 use Rattle.block.proofs.decode_words.Tie as tie
 
 mul-n : tie.Need-mul-n
-mul-n c = omega (arith, sides-of _ (c .before .before .before .pre .1 .0) .texels)
+mul-n c =
+    let at-start = c .before .before .before in
+    omega (arith, sides-of _ (at-start .pre .1 .0) .texels)
 
 load-requires : tie.Need-load-requires
 load-requires c κs = search needs
@@ -29,29 +31,40 @@ same-length c = search needs
 
 returns : tie.Need-returns
 returns c =
-    let asked = c .before .before .before .before .before .before in
-    words-void _ _ _ (asked .before .load .ensures) _ _ _ _ (asked .void-answer .ensures) (c .before .before .before .before .void-color .ensures) (c .before .before .before .before .before .if1 .taken) (c .before .before .fill .ensures)
+    let after-fill = c .before .before in
+    let after-void-color = after-fill .before .before in
+    let at-if1 = after-void-color .before in
+    let after-void-answer = at-if1 .before in
+    let after-load = after-void-answer .before in
+    words-void _ _ _ (after-load .load .ensures) _ _ _ _ (after-void-answer .void-answer .ensures) (after-void-color .void-color .ensures) (at-if1 .if1 .taken) (after-fill .fill .ensures)
 
 make-tables-requires : tie.Need-make-tables-requires
 make-tables-requires c κs = search needs
 
 decode-ordinary-requires : tie.Need-decode-ordinary-requires
 decode-ordinary-requires c κs =
-    let made = c .before .before .before .before .before in
-    let asked = made .before .before in
-    (lent _ (made .make-tables .ensures), (void-false _ _ (asked .void-answer .ensures) (made .before .if1 .left), asked .before .before .before .before .before .pre .1 .0))
+    let after-make-tables = c .before .before .before .before .before in
+    let at-if1 = after-make-tables .before in
+    let after-void-answer = at-if1 .before in
+    let at-start = after-void-answer .before .before .before .before .before in
+    (lent _ (after-make-tables .make-tables .ensures), (void-false _ _ (after-void-answer .void-answer .ensures) (at-if1 .if1 .left), at-start .pre .1 .0))
 
 copy-requires : tie.Need-copy-requires
-copy-requires c κs = let start = c .before .before .before .before .before .before .before .before .before .before .before .before .before .before .before .before in (omega (arith, sides-of _ (start .pre .1 .0) .texels), omega (arith, start .pre .1 .1))
+copy-requires c κs =
+    let at-start = c .before .before .before .before .before .before .before .before .before .before .before .before .before .before .before .before in
+    (omega (arith, sides-of _ (at-start .pre .1 .0) .texels), omega (arith, at-start .pre .1 .1))
 
 same-length-2 : tie.Need-same-length-2
 same-length-2 c = search needs
 
 returns-2 : tie.Need-returns-2
 returns-2 c =
-    let decoded = c .before .before .before .before .before .before in
-    let loaded = decoded .before .before .before .before .before .before .before .before .before in
-    words-legal _ _ _ (loaded .load .ensures) _ _ _ _ (loaded .before .before .before .before .pre .1 .0) (decoded .decode-ordinary .ensures .0) (c .before .before .before .before .before .if2 .taken) (decoded .decode-ordinary .ensures .1) (c .before .before .copy .ensures)
+    let after-copy = c .before .before in
+    let at-if2 = after-copy .before .before .before in
+    let after-decode-ordinary = at-if2 .before in
+    let after-load = after-decode-ordinary .before .before .before .before .before .before .before .before .before in
+    let at-start = after-load .before .before .before .before in
+    words-legal _ _ _ (after-load .load .ensures) _ _ _ _ (at-start .pre .1 .0) (after-decode-ordinary .decode-ordinary .ensures .0) (at-if2 .if2 .taken) (after-decode-ordinary .decode-ordinary .ensures .1) (after-copy .copy .ensures)
 
 fill-requires-2 : tie.Need-fill-requires-2
 fill-requires-2 c κs = search needs
@@ -61,10 +74,13 @@ same-length-3 c = search needs
 
 returns-3 : tie.Need-returns-3
 returns-3 c =
-    let decoded = c .before .before .before .before .before in
-    let tested = decoded .before .before .before .before .before .before .before in
-    let asked = tested .before in
-    words-bad _ _ _ (asked .before .load .ensures) _ _ _ _ (asked .void-answer .ensures) (tested .if1 .left) (decoded .decode-ordinary .ensures .0) (c .before .before .before .before .if2 .left) (c .before .before .fill2 .ensures)
+    let after-fill2 = c .before .before in
+    let at-if2 = after-fill2 .before .before in
+    let after-decode-ordinary = at-if2 .before in
+    let at-if1 = after-decode-ordinary .before .before .before .before .before .before .before in
+    let after-void-answer = at-if1 .before in
+    let after-load = after-void-answer .before in
+    words-bad _ _ _ (after-load .load .ensures) _ _ _ _ (after-void-answer .void-answer .ensures) (at-if1 .if1 .left) (after-decode-ordinary .decode-ordinary .ensures .0) (at-if2 .if2 .left) (after-fill2 .fill2 .ensures)
 
 pub decode-words-spec : {M : Type 1} → statement M
 decode-words-spec =

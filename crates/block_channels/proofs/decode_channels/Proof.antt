@@ -15,7 +15,11 @@ returns : tie.Need-returns
 returns c = call-refused _ _ _ _ _ (rw (c .before .before .room-of .ensures) at (c .before .refusal .ensures)) (c .if1 .taken)
 
 put-block-requires : tie.Need-put-block-requires
-put-block-requires c κs = passed _ _ _ _ (rw (c .before .before .before .before .room-of .ensures) at (sym (c .before .before .before .refusal .ensures) ∙ c .before .before .if1 .left))
+put-block-requires c κs =
+    let at-if1 = c .before .before in
+    let after-refusal = at-if1 .before in
+    let after-room-of = after-refusal .before in
+    passed _ _ _ _ (rw (after-room-of .room-of .ensures) at (sym (after-refusal .refusal .ensures) ∙ at-if1 .if1 .left))
 
 same-length : tie.Need-same-length
 same-length c = search needs
@@ -25,8 +29,11 @@ same-length-2 c = search needs
 
 returns-2 : tie.Need-returns-2
 returns-2 c =
-    let checked = c .before .before .before .before .before .before .before in
-    all-put _ _ _ _ _ _ _ (rw (checked .before .before .room-of .ensures) at (sym (checked .before .refusal .ensures) ∙ checked .if1 .left)) (c .before .before .before .before .put-block .ensures)
+    let after-put-block = c .before .before .before .before in
+    let at-if1 = after-put-block .before .before .before in
+    let after-refusal = at-if1 .before in
+    let after-room-of = after-refusal .before in
+    all-put _ _ _ _ _ _ _ (rw (after-room-of .room-of .ensures) at (sym (after-refusal .refusal .ensures) ∙ at-if1 .if1 .left)) (after-put-block .put-block .ensures)
 
 pub decode-channels-spec : {M : Type 1} → statement M
 decode-channels-spec =

@@ -8,7 +8,10 @@ make-tables-requires : tie.Need-make-tables-requires
 make-tables-requires c κs = search needs
 
 decode-ordinary-requires : tie.Need-decode-ordinary-requires
-decode-ordinary-requires c κs = let made = c .before .before .before .before .before in (lent _ (made .make-tables .ensures), made .before .pre)
+decode-ordinary-requires c κs =
+    let after-make-tables = c .before .before .before .before .before in
+    let at-start = after-make-tables .before in
+    (lent _ (after-make-tables .make-tables .ensures), at-start .pre)
 
 returns : tie.Need-returns
 returns c = c .decode-ordinary .ensures

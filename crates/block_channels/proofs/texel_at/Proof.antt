@@ -20,19 +20,33 @@ texel-of-requires : tie.Need-texel-of-requires
 texel-of-requires c κs = search needs
 
 returns : tie.Need-returns
-returns c = texel-void _ _ _ (c .before .before .before .before .load .ensures) _ _ _ _ (c .texel-of .ensures) (c .before .void-samples .ensures) (c .before .before .before .void-answer .ensures) (c .before .before .if1 .taken)
+returns c =
+    let at-if1 = c .before .before in
+    let after-void-answer = at-if1 .before in
+    let after-load = after-void-answer .before in
+    texel-void _ _ _ (after-load .load .ensures) _ _ _ _ (c .texel-of .ensures) (c .before .void-samples .ensures) (after-void-answer .void-answer .ensures) (at-if1 .if1 .taken)
 
 decode-samples-requires : tie.Need-decode-samples-requires
-decode-samples-requires c κs = (void-false _ _ (c .before .before .void-answer .ensures) (c .before .if1 .left), c .before .before .before .before .before .pre .1)
+decode-samples-requires c κs =
+    let after-void-answer = c .before .before in
+    let at-start = after-void-answer .before .before .before in
+    (void-false _ _ (after-void-answer .void-answer .ensures) (c .before .if1 .left), at-start .pre .1)
 
 samples-at-requires : tie.Need-samples-at-requires
-samples-at-requires c κs = omega (arith, sides-of _ (c .before .before .before .before .before .before .before .before .pre .1) .texels, c .before .before .before .before .before .before .before .before .pre .2)
+samples-at-requires c κs =
+    let at-start = c .before .before .before .before .before .before .before .before in
+    omega (arith, sides-of _ (at-start .pre .1) .texels, at-start .pre .2)
 
 texel-of-requires-2 : tie.Need-texel-of-requires-2
 texel-of-requires-2 c κs = search needs
 
 returns-2 : tie.Need-returns-2
-returns-2 c = texel-legal _ _ _ (c .before .before .before .before .before .before .before .before .load .ensures) _ _ _ _ (c .texel-of2 .ensures) _ (c .before .before .before .before .before .before .before .before .before .before .pre .2) (c .before .before .before .before .before .before .before .before .before .before .pre .1) (c .before .before .before .before .decode-samples .ensures .1) (c .before .before .before .before .decode-samples .ensures .0) (c .before .before .before .if2 .taken) (c .before .samples-at .ensures)
+returns-2 c =
+    let at-if2 = c .before .before .before in
+    let after-decode-samples = at-if2 .before in
+    let after-load = after-decode-samples .before .before .before .before in
+    let at-start = after-load .before .before in
+    texel-legal _ _ _ (after-load .load .ensures) _ _ _ _ (c .texel-of2 .ensures) _ (at-start .pre .2) (at-start .pre .1) (after-decode-samples .decode-samples .ensures .1) (after-decode-samples .decode-samples .ensures .0) (at-if2 .if2 .taken) (c .before .samples-at .ensures)
 
 magenta-requires : tie.Need-magenta-requires
 magenta-requires c κs = search needs
@@ -41,7 +55,13 @@ texel-of-requires-3 : tie.Need-texel-of-requires-3
 texel-of-requires-3 c κs = search needs
 
 returns-3 : tie.Need-returns-3
-returns-3 c = texel-bad _ _ _ (c .before .before .before .before .before .before .before .load .ensures) _ _ _ _ (c .texel-of3 .ensures) (c .before .magenta .ensures) (void-false _ _ (c .before .before .before .before .before .before .void-answer .ensures) (c .before .before .before .before .before .if1 .left)) (c .before .before .before .decode-samples .ensures .0) (c .before .before .if2 .left)
+returns-3 c =
+    let at-if2 = c .before .before in
+    let after-decode-samples = at-if2 .before in
+    let at-if1 = after-decode-samples .before .before in
+    let after-void-answer = at-if1 .before in
+    let after-load = after-void-answer .before in
+    texel-bad _ _ _ (after-load .load .ensures) _ _ _ _ (c .texel-of3 .ensures) (c .before .magenta .ensures) (void-false _ _ (after-void-answer .void-answer .ensures) (at-if1 .if1 .left)) (after-decode-samples .decode-samples .ensures .0) (at-if2 .if2 .left)
 
 pub texel-at-spec : {M : Type 1} → statement M
 texel-at-spec =

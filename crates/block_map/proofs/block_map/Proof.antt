@@ -23,8 +23,9 @@ decode-block-map-requires c κs = search needs
 
 returns-2 : tie.Need-returns-2
 returns-2 c =
-    let checked = c .before .before in
-    let passed = given _ _ (sym (checked .before .first-refusal .ensures) ∙ checked .if1 .left) in
+    let at-if1 = c .before .before in
+    let after-first-refusal = at-if1 .before in
+    let passed = given _ _ (sym (after-first-refusal .first-refusal .ensures) ∙ at-if1 .if1 .left) in
     map-block _ _ _ _ (passed .0) (passed .1) (c .before .load .ensures) (c .decode-block-map .ensures)
 
 pub block-map-spec : {M : Type 1} → statement M

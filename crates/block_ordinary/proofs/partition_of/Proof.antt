@@ -5,7 +5,9 @@ use Rattle.block_ordinary.proofs.partition_of.Statement.{statement}
 use Rattle.block_ordinary.proofs.partition_of.Tie as tie
 
 returns : tie.Need-returns
-returns c = partitions-one _ _ _ (c .before .before .before .pre .0) (c .if1 .taken)
+returns c =
+    let at-start = c .before .before .before in
+    partitions-one _ _ _ (at-start .pre .0) (c .if1 .taken)
 
 cast-select-partition : tie.Need-cast-select-partition
 cast-select-partition c = search needs
@@ -14,7 +16,10 @@ select-partition-requires : tie.Need-select-partition-requires
 select-partition-requires c κs = search needs
 
 returns-2 : tie.Need-returns-2
-returns-2 c = partitions-more _ _ _ _ (c .before .before .before .before .before .before .pre .0) (c .before .before .before .if1 .left) (c .select-partition .ensures)
+returns-2 c =
+    let at-if1 = c .before .before .before in
+    let at-start = at-if1 .before .before .before in
+    partitions-more _ _ _ _ (at-start .pre .0) (at-if1 .if1 .left) (c .select-partition .ensures)
 
 pub partition-of-spec : {M : Type 1} → statement M
 partition-of-spec =

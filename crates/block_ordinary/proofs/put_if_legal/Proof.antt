@@ -11,13 +11,16 @@ decode-block-params-requires c κs = search needs
 
 put-ordinary-requires : tie.Need-put-ordinary-requires
 put-ordinary-requires c κs =
-    let s = c .before .before .before in
-    (s .pre .0, ready _ _ _ (c .before .before .decode-block-params .ensures) (c .before .if1 .taken) (s .pre .1 .1))
+    let after-decode-block-params = c .before .before in
+    let at-start = after-decode-block-params .before in
+    (at-start .pre .0, ready _ _ _ (after-decode-block-params .decode-block-params .ensures) (c .before .if1 .taken) (at-start .pre .1 .1))
 
 returns : tie.Need-returns
 returns c =
-    let e = c .before .before .before .decode-block-params .ensures in
-    let z = c .before .before .if1 .taken in
+    let at-if1 = c .before .before in
+    let after-decode-block-params = at-if1 .before in
+    let e = after-decode-block-params .decode-block-params .ensures in
+    let z = at-if1 .if1 .taken in
     (sym z ∙ answer-told _ _ _ e, lanes-legal _ _ _ e _ _ _ z (c .put-ordinary .ensures))
 
 returns-2 : tie.Need-returns-2

@@ -22,28 +22,42 @@ enum-told c = search needs
 
 applicate-color-requires : tie.Need-applicate-color-requires
 applicate-color-requires c κs =
-    let s = c .before .before .before .before .before .before .before .before .before .before .before .before .before .before in
-    let k = s .pre .1 in
-    paint-given (s .args .p) (s .args .f) (k .facts) _ _ _ _ _ _ refl (k .sides .texels) (c .before .before .before .before .before .before .before .before .before .before .before .ends-of .ensures) (c .before .before .before .before .before .before .before .before .before .weights-of .ensures) (c .before .before .before .before .before .before .before .partition-of .ensures)
+    let after-partition-of = c .before .before .before .before .before .before .before in
+    let after-weights-of = after-partition-of .before .before in
+    let after-ends-of = after-weights-of .before .before in
+    let at-start = after-ends-of .before .before .before in
+    let k = at-start .pre .1 in
+    paint-given (at-start .args .p) (at-start .args .f) (k .facts) _ _ _ _ _ _ refl (k .sides .texels) (after-ends-of .ends-of .ensures) (after-weights-of .weights-of .ensures) (after-partition-of .partition-of .ensures)
 
 enum-told-2 : tie.Need-enum-told-2
 enum-told-2 c = search needs
 
 put-samples-requires : tie.Need-put-samples-requires
 put-samples-requires c κs =
-    let s = c .before .before .before .before .before .before .before .before .before .before .before .before .before .before in
-    let k = s .pre .1 in
-    paint-given (s .args .p) (s .args .f) (k .facts) _ _ _ _ _ _ refl (k .sides .texels) (c .before .before .before .before .before .before .before .before .before .before .before .ends-of .ensures) (c .before .before .before .before .before .before .before .before .before .weights-of .ensures) (c .before .before .before .before .before .before .before .partition-of .ensures)
+    let after-partition-of = c .before .before .before .before .before .before .before in
+    let after-weights-of = after-partition-of .before .before in
+    let after-ends-of = after-weights-of .before .before in
+    let at-start = after-ends-of .before .before .before in
+    let k = at-start .pre .1 in
+    paint-given (at-start .args .p) (at-start .args .f) (k .facts) _ _ _ _ _ _ refl (k .sides .texels) (after-ends-of .ends-of .ensures) (after-weights-of .weights-of .ensures) (after-partition-of .partition-of .ensures)
 
 returns : tie.Need-returns
 returns c =
-    let s = c .before .before .before .before .before .before .before .before .before .before .before .before .before .before .before in
-    words-put _ _ (s .args .f) _ _ _ _ _ _ (c .before .before .before .before .before .before .before .before .before .before .before .before .ends-of .ensures) (c .before .before .before .before .before .before .before .before .before .before .weights-of .ensures) (c .before .before .before .before .before .before .before .before .partition-of .ensures) refl _ (c .before .before .before .before .before .enum-told .given .1) (c .applicate-color .ensures)
+    let at-enum-told = c .before .before .before .before .before in
+    let after-partition-of = at-enum-told .before .before .before in
+    let after-weights-of = after-partition-of .before .before in
+    let after-ends-of = after-weights-of .before .before in
+    let at-start = after-ends-of .before .before .before in
+    words-put _ _ (at-start .args .f) _ _ _ _ _ _ (after-ends-of .ends-of .ensures) (after-weights-of .weights-of .ensures) (after-partition-of .partition-of .ensures) refl _ (at-enum-told .enum-told .given .1) (c .applicate-color .ensures)
 
 returns-2 : tie.Need-returns-2
 returns-2 c =
-    let s = c .before .before .before .before .before .before .before .before .before .before .before .before .before .before .before in
-    samples-put _ _ (s .args .f) _ _ _ _ _ _ (c .before .before .before .before .before .before .before .before .before .before .before .before .ends-of .ensures) (c .before .before .before .before .before .before .before .before .before .before .weights-of .ensures) (c .before .before .before .before .before .before .before .before .partition-of .ensures) refl _ (c .before .before .before .before .before .enum-told2 .given .1) (c .put-samples .ensures)
+    let at-enum-told2 = c .before .before .before .before .before in
+    let after-partition-of = at-enum-told2 .before .before .before in
+    let after-weights-of = after-partition-of .before .before in
+    let after-ends-of = after-weights-of .before .before in
+    let at-start = after-ends-of .before .before .before in
+    samples-put _ _ (at-start .args .f) _ _ _ _ _ _ (after-ends-of .ends-of .ensures) (after-weights-of .weights-of .ensures) (after-partition-of .partition-of .ensures) refl _ (at-enum-told2 .enum-told2 .given .1) (c .put-samples .ensures)
 
 pub put-ordinary-spec : {M : Type 1} → statement M
 put-ordinary-spec =

@@ -20,7 +20,12 @@ half-sample-requires-4 : tie.Need-half-sample-requires-4
 half-sample-requires-4 c κs = search needs
 
 returns : tie.Need-returns
-returns c = samples-halves _ (c .before .before .before .before .before .getbits .result) (c .before .before .before .before .before .getbits .ensures .0) _ _ _ _ (c .before .before .before .before .if1 .taken) (c .before .before .before .half-sample .ensures) (c .before .before .half-sample2 .ensures) (c .before .half-sample3 .ensures) (c .half-sample4 .ensures)
+returns c =
+    let after-half-sample2 = c .before .before in
+    let after-half-sample = after-half-sample2 .before in
+    let at-if1 = after-half-sample .before in
+    let after-getbits = at-if1 .before in
+    samples-halves _ (after-getbits .getbits .result) (after-getbits .getbits .ensures .0) _ _ _ _ (at-if1 .if1 .taken) (after-half-sample .half-sample .ensures) (after-half-sample2 .half-sample2 .ensures) (c .before .half-sample3 .ensures) (c .half-sample4 .ensures)
 
 byte-sample-requires : tie.Need-byte-sample-requires
 byte-sample-requires c κs = search needs
@@ -35,7 +40,12 @@ byte-sample-requires-4 : tie.Need-byte-sample-requires-4
 byte-sample-requires-4 c κs = search needs
 
 returns-2 : tie.Need-returns-2
-returns-2 c = samples-bytes _ (c .before .before .before .before .before .getbits .result) (c .before .before .before .before .before .getbits .ensures .0) _ _ _ _ (c .before .before .before .before .if1 .left) (c .before .before .before .byte-sample .ensures) (c .before .before .byte-sample2 .ensures) (c .before .byte-sample3 .ensures) (c .byte-sample4 .ensures)
+returns-2 c =
+    let after-byte-sample2 = c .before .before in
+    let after-byte-sample = after-byte-sample2 .before in
+    let at-if1 = after-byte-sample .before in
+    let after-getbits = at-if1 .before in
+    samples-bytes _ (after-getbits .getbits .result) (after-getbits .getbits .ensures .0) _ _ _ _ (at-if1 .if1 .left) (after-byte-sample .byte-sample .ensures) (after-byte-sample2 .byte-sample2 .ensures) (c .before .byte-sample3 .ensures) (c .byte-sample4 .ensures)
 
 pub void-samples-spec : {M : Type 1} → statement M
 void-samples-spec =

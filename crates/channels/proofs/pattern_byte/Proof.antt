@@ -19,8 +19,9 @@ shr-result c = search needs
 
 cast-result : tie.Need-cast-result
 cast-result c =
-    let tests = c .before .before .before in
-    let n = finite-field _ (c .before .before .before .before .pre) (tests .if1 .left) in
+    let at-if1 = c .before .before .before in
+    let at-start = at-if1 .before in
+    let n = finite-field _ (at-start .pre) (at-if1 .if1 .left) in
     record { fits = shifted-lt _ n (omega (arith, c .before .if3 .left)) (omega (arith, c .if4 .left)) }
 
 returns : tie.Need-returns
@@ -30,13 +31,22 @@ returns-2 : tie.Need-returns-2
 returns-2 c = ret-minus _ (finite-field _ (c .before .before .pre) (c .before .if1 .left)) (c .if2 .taken)
 
 returns-3 : tie.Need-returns-3
-returns-3 c = ret-one _ (finite-field _ (c .before .before .before .pre) (c .before .before .if1 .left)) (omega (arith, c .before .if2 .left)) (c .if3 .taken)
+returns-3 c =
+    let at-if1 = c .before .before in
+    let at-start = at-if1 .before in
+    ret-one _ (finite-field _ (at-start .pre) (at-if1 .if1 .left)) (omega (arith, c .before .if2 .left)) (c .if3 .taken)
 
 returns-4 : tie.Need-returns-4
-returns-4 c = ret-none _ (finite-field _ (c .before .before .before .before .pre) (c .before .before .before .if1 .left)) (c .if4 .taken)
+returns-4 c =
+    let at-if1 = c .before .before .before in
+    let at-start = at-if1 .before in
+    ret-none _ (finite-field _ (at-start .pre) (at-if1 .if1 .left)) (c .if4 .taken)
 
 returns-5 : tie.Need-returns-5
-returns-5 c = ret-shifted _ (finite-field _ (c .before .before .before .before .pre) (c .before .before .before .if1 .left)) (omega (arith, c .before .if3 .left)) (omega (arith, c .if4 .left))
+returns-5 c =
+    let at-if1 = c .before .before .before in
+    let at-start = at-if1 .before in
+    ret-shifted _ (finite-field _ (at-start .pre) (at-if1 .if1 .left)) (omega (arith, c .before .if3 .left)) (omega (arith, c .if4 .left))
 
 pub pattern-byte-spec : {M : Type 1} → statement M
 pattern-byte-spec =

@@ -26,10 +26,14 @@ returns : tie.Need-returns
 returns c = search needs
 
 returns-2 : tie.Need-returns-2
-returns-2 c = ret-float _ _ _ _ _ (c .before .before .before .before .c2 .given .1) (c .before .enum-told .given .1) (c .byte-of .ensures)
+returns-2 c =
+    let after-c2 = c .before .before .before .before in
+    ret-float _ _ _ _ _ (after-c2 .c2 .given .1) (c .before .enum-told .given .1) (c .byte-of .ensures)
 
 returns-3 : tie.Need-returns-3
-returns-3 c = ret-float _ _ _ _ _ (c .before .before .before .before .c2 .given .1) (c .before .enum-told2 .given .1) (c .byte-of2 .ensures)
+returns-3 c =
+    let after-c2 = c .before .before .before .before in
+    ret-float _ _ _ _ _ (after-c2 .c2 .given .1) (c .before .enum-told2 .given .1) (c .byte-of2 .ensures)
 
 pub reduced-spec : {M : Type 1} → statement M
 reduced-spec =

@@ -16,7 +16,10 @@ channel-of-requires-4 : tie.Need-channel-of-requires-4
 channel-of-requires-4 c κs = search needs
 
 returns : tie.Need-returns
-returns c = rw (c .before .before .before .channel-of .ensures, c .before .before .channel-of2 .ensures, c .before .channel-of3 .ensures, c .channel-of4 .ensures)
+returns c =
+    let after-channel-of2 = c .before .before in
+    let after-channel-of = after-channel-of2 .before in
+    rw (after-channel-of .channel-of .ensures, after-channel-of2 .channel-of2 .ensures, c .before .channel-of3 .ensures, c .channel-of4 .ensures)
 
 pub texel-of-spec : {M : Type 1} → statement M
 texel-of-spec =

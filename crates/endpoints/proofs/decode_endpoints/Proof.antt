@@ -18,7 +18,9 @@ abbrev μ-loop : tie.MeasureT-loop
 
 -- the values of the partition at hand end before the eighteenth
 early : (c : tie.In-loop Inv-loop μ-loop) → countTo (c .before .before .before .args .t2) (c .before .loop .i) + countOf (getD (c .before .before .before .args .t2) (c .before .loop .i) 0) ≤ 18
-early c = starts-early (c .before .before .before .args .t2) (c .before .loop .i) (c .before .before .before .args .parts) (omega arith) (c .before .before .before .pre .1 .1)
+early c =
+    let at-start = c .before .before .before in
+    starts-early (at-start .args .t2) (c .before .loop .i) (at-start .args .parts) (omega arith) (at-start .pre .1 .1)
 
 no-endpoints-requires : tie.Need-no-endpoints-requires Inv-loop μ-loop
 no-endpoints-requires c κs = search needs
@@ -34,7 +36,10 @@ values-at-requires : tie.Need-values-at-requires Inv-loop μ-loop
 values-at-requires c κs = omega (arith, early c)
 
 decode-mode-requires : tie.Need-decode-mode-requires Inv-loop μ-loop
-decode-mode-requires c κs = c .before .before .before .before .pre .1 .0 (c .before .before .loop .i) (omega arith)
+decode-mode-requires c κs =
+    let at-loop = c .before .before in
+    let at-start = at-loop .before .before in
+    at-start .pre .1 .0 (at-loop .loop .i) (omega arith)
 
 mul-out : tie.Need-mul-out Inv-loop μ-loop
 mul-out c = omega arith
@@ -46,7 +51,9 @@ values-of-requires : tie.Need-values-of-requires Inv-loop μ-loop
 values-of-requires c κs = search needs
 
 add-k : tie.Need-add-k Inv-loop μ-loop
-add-k c = omega (arith, early (c .before .before .before))
+add-k c =
+    let in-loop = c .before .before .before in
+    omega (arith, early in-loop)
 
 add-i : tie.Need-add-i Inv-loop μ-loop
 add-i c = omega arith
@@ -56,14 +63,18 @@ loop-less c = omega arith
 
 loop-again : tie.Need-loop-again Inv-loop μ-loop
 loop-again c =
-    let l = c .before .before .before .before .loop in
-    let a = c .before .before .before .before .before .before .args in
-    (omega arith, rw (c .values-of .ensures, l .inv .1, count-next (a .t2) (l .i)), rw (l .inv .2) (one-more (a .t2) (now (a .ev)) _ (l .i) (omega arith) (c .before .decode-mode .ensures ∙ rw (c .before .before .values-at .ensures, l .inv .1))))
+    let after-values-at = c .before .before in
+    let at-loop = after-values-at .before .before in
+    let at-start = at-loop .before .before in
+    let l = at-loop .loop in
+    let a = at-start .args in
+    (omega arith, rw (c .values-of .ensures, l .inv .1, count-next (a .t2) (l .i)), rw (l .inv .2) (one-more (a .t2) (now (a .ev)) _ (l .i) (omega arith) (c .before .decode-mode .ensures ∙ rw (after-values-at .values-at .ensures, l .inv .1))))
 
 returns : tie.Need-returns Inv-loop μ-loop
 returns c =
+    let at-start = c .before .before .before in
     let l = c .before .loop in
-    let e : l .i ≡ c .before .before .before .args .parts = omega arith in
+    let e : l .i ≡ at-start .args .parts = omega arith in
     rw e at (l .inv .2)
 
 pub decode-endpoints-spec : {M : Type 1} → statement M

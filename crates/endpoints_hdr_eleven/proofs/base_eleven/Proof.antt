@@ -46,103 +46,139 @@ mul-result : tie.Need-mul-result
 mul-result c = fits 512 (bit-le _ 512) (lit≤ tt)
 
 add-result : tie.Need-add-result
-add-result c = fits 1023 (sum-le (base (c .before .before .before .before .before .before .before .before)) (bit-le _ 512)) (lit≤ tt)
+add-result c =
+    let at-start = c .before .before .before .before .before .before .before .before in
+    fits 1023 (sum-le (base at-start) (bit-le _ 512)) (lit≤ tt)
 
 mul-result-2 : tie.Need-mul-result-2
 mul-result-2 c = fits 512 (bit-le _ 512) (lit≤ tt)
 
 add-result-2 : tie.Need-add-result-2
-add-result-2 c = fits 1023 (sum-le (base (c .before .before .before .before .before .before .before .before)) (bit-le _ 512)) (lit≤ tt)
+add-result-2 c =
+    let at-start = c .before .before .before .before .before .before .before .before in
+    fits 1023 (sum-le (base at-start) (bit-le _ 512)) (lit≤ tt)
 
 mul-result-3 : tie.Need-mul-result-3
 mul-result-3 c = fits 512 (bit-le _ 512) (lit≤ tt)
 
 add-result-3 : tie.Need-add-result-3
-add-result-3 c = fits 1023 (sum-le (base (c .before .before .before .before .before .before .before .before)) (bit-le _ 512)) (lit≤ tt)
+add-result-3 c =
+    let at-start = c .before .before .before .before .before .before .before .before in
+    fits 1023 (sum-le (base at-start) (bit-le _ 512)) (lit≤ tt)
 
 mul-result-4 : tie.Need-mul-result-4
 mul-result-4 c = fits 1024 (bit-le _ 1024) (lit≤ tt)
 
 add-result-4 : tie.Need-add-result-4
-add-result-4 c = fits 2047 (sum-le (sum-le (base (c .before .before .before .before .before .before .before .before)) (bit-le _ 512)) (bit-le _ 1024)) (lit≤ tt)
+add-result-4 c =
+    let at-start = c .before .before .before .before .before .before .before .before in
+    fits 2047 (sum-le (sum-le (base at-start) (bit-le _ 512)) (bit-le _ 1024)) (lit≤ tt)
 
 mul-result-5 : tie.Need-mul-result-5
 mul-result-5 c = fits 512 (bit-le _ 512) (lit≤ tt)
 
 add-result-5 : tie.Need-add-result-5
-add-result-5 c = fits 1023 (sum-le (base (c .before .before .before .before .before .before .before .before)) (bit-le _ 512)) (lit≤ tt)
+add-result-5 c =
+    let at-start = c .before .before .before .before .before .before .before .before in
+    fits 1023 (sum-le (base at-start) (bit-le _ 512)) (lit≤ tt)
 
 mul-result-6 : tie.Need-mul-result-6
 mul-result-6 c = fits 1024 (bit-le _ 1024) (lit≤ tt)
 
 add-result-6 : tie.Need-add-result-6
-add-result-6 c = fits 2047 (sum-le (sum-le (base (c .before .before .before .before .before .before .before .before)) (bit-le _ 512)) (bit-le _ 1024)) (lit≤ tt)
+add-result-6 c =
+    let at-start = c .before .before .before .before .before .before .before .before in
+    fits 2047 (sum-le (sum-le (base at-start) (bit-le _ 512)) (bit-le _ 1024)) (lit≤ tt)
 
 mul-result-7 : tie.Need-mul-result-7
 mul-result-7 c = fits 512 (bit-le _ 512) (lit≤ tt)
 
 add-result-7 : tie.Need-add-result-7
-add-result-7 c = fits 1023 (sum-le (base (c .before .before .before .before .before .before .before .before)) (bit-le _ 512)) (lit≤ tt)
+add-result-7 c =
+    let at-start = c .before .before .before .before .before .before .before .before in
+    fits 1023 (sum-le (base at-start) (bit-le _ 512)) (lit≤ tt)
 
 mul-result-8 : tie.Need-mul-result-8
 mul-result-8 c = fits 1024 (bit-le _ 1024) (lit≤ tt)
 
 add-result-8 : tie.Need-add-result-8
-add-result-8 c = fits 2047 (sum-le (sum-le (base (c .before .before .before .before .before .before .before .before)) (bit-le _ 512)) (bit-le _ 1024)) (lit≤ tt)
+add-result-8 c =
+    let at-start = c .before .before .before .before .before .before .before .before in
+    fits 2047 (sum-le (sum-le (base at-start) (bit-le _ 512)) (bit-le _ 1024)) (lit≤ tt)
 
 mul-result-9 : tie.Need-mul-result-9
 mul-result-9 c = fits 2048 (bit-le _ 2048) (lit≤ tt)
 
 add-result-9 : tie.Need-add-result-9
-add-result-9 c = fits 4095 (sum-le (sum-le (sum-le (base (c .before .before .before .before .before .before .before .before)) (bit-le _ 512)) (bit-le _ 1024)) (bit-le _ 2048)) (lit≤ tt)
+add-result-9 c =
+    let at-start = c .before .before .before .before .before .before .before .before in
+    fits 4095 (sum-le (sum-le (sum-le (base at-start) (bit-le _ 512)) (bit-le _ 1024)) (bit-le _ 2048)) (lit≤ tt)
 
 mul-result-10 : tie.Need-mul-result-10
 mul-result-10 c = fits 512 (bit-le _ 512) (lit≤ tt)
 
 add-result-10 : tie.Need-add-result-10
-add-result-10 c = fits 1023 (sum-le (base (c .before .before .before .before .before .before .before .before)) (bit-le _ 512)) (lit≤ tt)
+add-result-10 c =
+    let at-start = c .before .before .before .before .before .before .before .before in
+    fits 1023 (sum-le (base at-start) (bit-le _ 512)) (lit≤ tt)
 
 mul-result-11 : tie.Need-mul-result-11
 mul-result-11 c = fits 1024 (bit-le _ 1024) (lit≤ tt)
 
 add-result-11 : tie.Need-add-result-11
-add-result-11 c = fits 2047 (sum-le (sum-le (base (c .before .before .before .before .before .before .before .before)) (bit-le _ 512)) (bit-le _ 1024)) (lit≤ tt)
+add-result-11 c =
+    let at-start = c .before .before .before .before .before .before .before .before in
+    fits 2047 (sum-le (sum-le (base at-start) (bit-le _ 512)) (bit-le _ 1024)) (lit≤ tt)
 
 mul-result-12 : tie.Need-mul-result-12
 mul-result-12 c = fits 2048 (bit-le _ 2048) (lit≤ tt)
 
 add-result-12 : tie.Need-add-result-12
-add-result-12 c = fits 4095 (sum-le (sum-le (sum-le (base (c .before .before .before .before .before .before .before .before)) (bit-le _ 512)) (bit-le _ 1024)) (bit-le _ 2048)) (lit≤ tt)
+add-result-12 c =
+    let at-start = c .before .before .before .before .before .before .before .before in
+    fits 4095 (sum-le (sum-le (sum-le (base at-start) (bit-le _ 512)) (bit-le _ 1024)) (bit-le _ 2048)) (lit≤ tt)
 
 returns : tie.Need-returns
 unfolding bases
-returns c = let s = c .before .before .before .before .before .before .before .before in base-out (s .args .v) (s .args .mode) _ (byte s) (s .pre) (rw (c .match .keys1))
+returns c =
+    let at-start = c .before .before .before .before .before .before .before .before in
+    base-out (at-start .args .v) (at-start .args .mode) _ (byte at-start) (at-start .pre) (rw (c .match .keys1))
 
 returns-2 : tie.Need-returns-2
 unfolding bases
-returns-2 c = let s = c .before .before .before .before .before .before .before .before in base-out (s .args .v) (s .args .mode) _ (byte s) (s .pre) (rw (c .match .keys2))
+returns-2 c =
+    let at-start = c .before .before .before .before .before .before .before .before in
+    base-out (at-start .args .v) (at-start .args .mode) _ (byte at-start) (at-start .pre) (rw (c .match .keys2))
 
 returns-3 : tie.Need-returns-3
 unfolding bases
-returns-3 c = let s = c .before .before .before .before .before .before .before .before in base-out (s .args .v) (s .args .mode) _ (byte s) (s .pre) (rw (c .match .keys3))
+returns-3 c =
+    let at-start = c .before .before .before .before .before .before .before .before in
+    base-out (at-start .args .v) (at-start .args .mode) _ (byte at-start) (at-start .pre) (rw (c .match .keys3))
 
 returns-4 : tie.Need-returns-4
 unfolding bases
-returns-4 c = let s = c .before .before .before .before .before .before .before .before in base-out (s .args .v) (s .args .mode) _ (byte s) (s .pre) (rw (c .match .keys4))
+returns-4 c =
+    let at-start = c .before .before .before .before .before .before .before .before in
+    base-out (at-start .args .v) (at-start .args .mode) _ (byte at-start) (at-start .pre) (rw (c .match .keys4))
 
 returns-5 : tie.Need-returns-5
 unfolding bases
-returns-5 c = let s = c .before .before .before .before .before .before .before .before in base-out (s .args .v) (s .args .mode) _ (byte s) (s .pre) (rw (c .match .keys5))
+returns-5 c =
+    let at-start = c .before .before .before .before .before .before .before .before in
+    base-out (at-start .args .v) (at-start .args .mode) _ (byte at-start) (at-start .pre) (rw (c .match .keys5))
 
 returns-6 : tie.Need-returns-6
 unfolding bases
-returns-6 c = let s = c .before .before .before .before .before .before .before .before in base-out (s .args .v) (s .args .mode) _ (byte s) (s .pre) (rw (c .match .keys6))
+returns-6 c =
+    let at-start = c .before .before .before .before .before .before .before .before in
+    base-out (at-start .args .v) (at-start .args .mode) _ (byte at-start) (at-start .pre) (rw (c .match .keys6))
 
 returns-7 : tie.Need-returns-7
 returns-7 c =
-    let s = c .before .before .before .before .before .before .before .before in
+    let at-start = c .before .before .before .before .before .before .before .before in
     let n = c .match .rest in
-    base-out (s .args .v) (s .args .mode) _ (byte s) (s .pre) (base-rest (s .args .v) (s .args .mode) (s .pre) (n .0 .0 .0 .0 .0 .1) (n .0 .0 .0 .0 .1) (n .0 .0 .0 .1) (n .0 .0 .1) (n .0 .1) (n .1))
+    base-out (at-start .args .v) (at-start .args .mode) _ (byte at-start) (at-start .pre) (base-rest (at-start .args .v) (at-start .args .mode) (at-start .pre) (n .0 .0 .0 .0 .0 .1) (n .0 .0 .0 .0 .1) (n .0 .0 .0 .1) (n .0 .0 .1) (n .0 .1) (n .1))
 
 pub base-eleven-spec : {M : Type 1} → statement M
 base-eleven-spec =

@@ -67,7 +67,9 @@ returns-5 c = rw (c .match .keys5) (refl, omega arith)
 
 returns-6 : tie.Need-returns-6
 unfolding commons
-returns-6 c = (common-rest (c .before .before .before .args .v) (c .before .before .before .args .mode) (omega arith) (c .match .rest .0 .0 .0 .0 .1) (c .match .rest .0 .0 .0 .1) (c .match .rest .0 .0 .1) (c .match .rest .0 .1) (c .match .rest .1), omega arith)
+returns-6 c =
+    let at-start = c .before .before .before in
+    (common-rest (at-start .args .v) (at-start .args .mode) (omega arith) (c .match .rest .0 .0 .0 .0 .1) (c .match .rest .0 .0 .0 .1) (c .match .rest .0 .0 .1) (c .match .rest .0 .1) (c .match .rest .1), omega arith)
 
 pub common-spec : {M : Type 1} → statement M
 common-spec =

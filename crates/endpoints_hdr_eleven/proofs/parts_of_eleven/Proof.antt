@@ -25,36 +25,49 @@ difference-requires-2 : tie.Need-difference-requires-2
 difference-requires-2 c κs = search needs
 
 mul-t9 : tie.Need-mul-t9
-mul-t9 c = product-fits 255 (c .before .before .before .scale .ensures .1) (under (c .difference2 .ensures .1)) (lit≤ tt)
+mul-t9 c =
+    let after-scale = c .before .before .before in
+    product-fits 255 (after-scale .scale .ensures .1) (under (c .difference2 .ensures .1)) (lit≤ tt)
 
 common-requires : tie.Need-common-requires
 common-requires c κs = search needs
 
 mul-t11 : tie.Need-mul-t11
-mul-t11 c = product-fits 255 (c .before .before .before .before .scale .ensures .1) (under (c .common .ensures .1)) (lit≤ tt)
+mul-t11 c =
+    let after-scale = c .before .before .before .before in
+    product-fits 255 (after-scale .scale .ensures .1) (under (c .common .ensures .1)) (lit≤ tt)
 
 offset-requires : tie.Need-offset-requires
 offset-requires c κs = search needs
 
 mul-t13 : tie.Need-mul-t13
-mul-t13 c = product-fits 4160 (c .before .before .before .before .before .scale .ensures .1) (c .offset .ensures .1) (lit≤ tt)
+mul-t13 c =
+    let after-scale = c .before .before .before .before .before in
+    product-fits 4160 (after-scale .scale .ensures .1) (c .offset .ensures .1) (lit≤ tt)
 
 offset-requires-2 : tie.Need-offset-requires-2
 offset-requires-2 c κs = search needs
 
 mul-t15 : tie.Need-mul-t15
-mul-t15 c = product-fits 4160 (c .before .before .before .before .before .before .scale .ensures .1) (c .offset2 .ensures .1) (lit≤ tt)
+mul-t15 c =
+    let after-scale = c .before .before .before .before .before .before in
+    product-fits 4160 (after-scale .scale .ensures .1) (c .offset2 .ensures .1) (lit≤ tt)
 
 returns : tie.Need-returns
 unfolding elevenOf
 returns c =
-    let y = c .before .before .before .before .before .before .scale .ensures .1 in (
-      rw (c .offset2 .ensures .0, c .before .offset .ensures .0, c .before .before .common .ensures .0, c .before .before .before .difference2 .ensures .0, c .before .before .before .before .difference .ensures .0, c .before .before .before .before .before .base-eleven .ensures .0, c .before .before .before .before .before .before .scale .ensures .0),
+    let after-common = c .before .before in
+    let after-difference2 = after-common .before in
+    let after-difference = after-difference2 .before in
+    let after-base-eleven = after-difference .before in
+    let after-scale = after-base-eleven .before in
+    let y = after-scale .scale .ensures .1 in (
+      rw (c .offset2 .ensures .0, c .before .offset .ensures .0, after-common .common .ensures .0, after-difference2 .difference2 .ensures .0, after-difference .difference .ensures .0, after-base-eleven .base-eleven .ensures .0, after-scale .scale .ensures .0),
       record {
-        a = rw (c .before .before .before .before .before .before .scale .ensures .0) (c .before .before .before .before .before .base-eleven .ensures .1);
-        b0 = product-lt 255 y (under (c .before .before .before .before .difference .ensures .1)) (lit< tt);
-        b1 = product-lt 255 y (under (c .before .before .before .difference2 .ensures .1)) (lit< tt);
-        c = product-lt 255 y (under (c .before .before .common .ensures .1)) (lit< tt);
+        a = rw (after-scale .scale .ensures .0) (after-base-eleven .base-eleven .ensures .1);
+        b0 = product-lt 255 y (under (after-difference .difference .ensures .1)) (lit< tt);
+        b1 = product-lt 255 y (under (after-difference2 .difference2 .ensures .1)) (lit< tt);
+        c = product-lt 255 y (under (after-common .common .ensures .1)) (lit< tt);
         d0 = product-lt 4160 y (c .before .offset .ensures .1) (lit< tt);
         d1 = product-lt 4160 y (c .offset2 .ensures .1) (lit< tt);
       },

@@ -16,7 +16,10 @@ clamp-requires-4 : tie.Need-clamp-requires-4
 clamp-requires-4 c κs = search needs
 
 returns : tie.Need-returns
-returns c = rw (c .before .before .before .clamp .ensures, c .before .before .clamp2 .ensures, c .before .clamp3 .ensures, c .clamp4 .ensures)
+returns c =
+    let after-clamp2 = c .before .before in
+    let after-clamp = after-clamp2 .before in
+    rw (after-clamp .clamp .ensures, after-clamp2 .clamp2 .ensures, c .before .clamp3 .ensures, c .clamp4 .ensures)
 
 pub clamp-each-spec : {M : Type 1} → statement M
 clamp-each-spec =

@@ -60,9 +60,10 @@ returns-6 c = search mode-direct
 
 returns-7 : tie.Need-returns-7
 returns-7 c =
-    let n = c .before .before .match .rest in
-    let s = c .before .before .before in
-    mode-offset _ _ _ _ (last-modes (s .args .mode) (s .pre .0) (s .pre .1) (n .0 .0 .0 .0 .0 .1) (n .0 .0 .0 .0 .1) (n .0 .0 .0 .1) (n .0 .0 .1) (n .0 .1) (n .1)) (c .before .offset-alphas .ensures) (c .offset-endpoints .ensures)
+    let at-match = c .before .before in
+    let at-start = at-match .before in
+    let n = at-match .match .rest in
+    mode-offset _ _ _ _ (last-modes (at-start .args .mode) (at-start .pre .0) (at-start .pre .1) (n .0 .0 .0 .0 .0 .1) (n .0 .0 .0 .0 .1) (n .0 .0 .0 .1) (n .0 .0 .1) (n .0 .1) (n .1)) (c .before .offset-alphas .ensures) (c .offset-endpoints .ensures)
 
 pub decode-ldr-spec : {M : Type 1} → statement M
 decode-ldr-spec =

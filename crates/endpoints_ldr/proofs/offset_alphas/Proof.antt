@@ -23,7 +23,10 @@ add-t10 : tie.Need-add-t10
 add-t10 c = search needs
 
 returns-2 : tie.Need-returns-2
-returns-2 c = rw (ne-eqb _ _ (c .before .before .before .if1 .left), c .before .before .bit-transfer-signed .ensures .0)
+returns-2 c =
+    let after-bit-transfer-signed = c .before .before in
+    let at-if1 = after-bit-transfer-signed .before in
+    rw (ne-eqb _ _ (at-if1 .if1 .left), after-bit-transfer-signed .bit-transfer-signed .ensures .0)
 
 pub offset-alphas-spec : {M : Type 1} → statement M
 offset-alphas-spec =

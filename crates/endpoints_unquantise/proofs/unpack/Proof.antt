@@ -17,19 +17,27 @@ shr-t : tie.Need-shr-t
 shr-t c = search needs
 
 mul-t : tie.Need-mul-t
-mul-t c = let a = c .before .before .before .args in omega (arith, parts (a .p) (a .v) (c .before .before .before .pre) (omega arith))
+mul-t c =
+    let at-start = c .before .before .before in
+    let a = at-start .args in omega (arith, parts (a .p) (a .v) (at-start .pre) (omega arith))
 
 mul-t-2 : tie.Need-mul-t-2
-mul-t-2 c = let s = c .before .before .before .before .pre in let a = c .before .before .before .before .args in rw (one-shl (a .p .bits) (s .bits)) (omega (arith, parts (a .p) (a .v) s (omega arith)))
+mul-t-2 c =
+    let at-start = c .before .before .before .before in
+    let s = at-start .pre in let a = at-start .args in rw (one-shl (a .p .bits) (s .bits)) (omega (arith, parts (a .p) (a .v) s (omega arith)))
 
 add-t : tie.Need-add-t
-add-t c = let s = c .before .before .before .before .pre in let a = c .before .before .before .before .args in rw (one-shl (a .p .bits) (s .bits)) (omega (arith, parts (a .p) (a .v) s (omega arith)))
+add-t c =
+    let at-start = c .before .before .before .before in
+    let s = at-start .pre in let a = at-start .args in rw (one-shl (a .p .bits) (s .bits)) (omega (arith, parts (a .p) (a .v) s (omega arith)))
 
 shr-t-2 : tie.Need-shr-t-2
 shr-t-2 c = search needs
 
 add-t-2 : tie.Need-add-t-2
-add-t-2 c = let s = c .before .before .before .before .before .pre in let a = c .before .before .before .before .before .args in rw (one-shl (a .p .bits) (s .bits)) (omega (arith, parts (a .p) (a .v) s (omega arith)))
+add-t-2 c =
+    let at-start = c .before .before .before .before .before in
+    let s = at-start .pre in let a = at-start .args in rw (one-shl (a .p .bits) (s .bits)) (omega (arith, parts (a .p) (a .v) s (omega arith)))
 
 cast-flip : tie.Need-cast-flip
 cast-flip c = search needs
@@ -40,8 +48,8 @@ flip-requires c κs = search needs
 returns : tie.Need-returns
 unfolding unpacked
 returns c =
-    let b = c .before .before .before .before .before .before in
-    c .flip .ensures ∙ rw (one-shl (b .args .p .bits) (b .pre .bits))
+    let at-start = c .before .before .before .before .before .before in
+    c .flip .ensures ∙ rw (one-shl (at-start .args .p .bits) (at-start .pre .bits))
 
 pub unpack-spec : {M : Type 1} → statement M
 unpack-spec =

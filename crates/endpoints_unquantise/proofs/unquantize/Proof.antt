@@ -19,14 +19,14 @@ unpack-all-requires c κs = search needs
 
 returns : tie.Need-returns
 returns c =
-    let b = c .before .before .before .before in
-    let p = b .pre in
+    let at-start = c .before .before .before .before in
+    let p = at-start .pre in
     all-filled (copied (c .before .repeat-of .result)) _ _ _ _ _ (omega arith) (omega arith) (c .before .repeat-of .ensures .right) (p .1 .1 .0) (p .1 .1 .1) (p .0) (c .copy-all .ensures)
 
 returns-2 : tie.Need-returns-2
 returns-2 c =
-    let b = c .before .before .before .before in
-    let p = b .pre in
+    let at-start = c .before .before .before .before in
+    let p = at-start .pre in
     all-filled (unpacked (c .before .rule-of .result)) _ _ _ _ _ (omega arith) (omega arith) (c .before .rule-of .ensures .right) (p .1 .1 .0) (p .1 .1 .1) (p .0) (c .unpack-all .ensures)
 
 pub unquantize-spec : {M : Type 1} → statement M

@@ -17,16 +17,23 @@ total-requires : tie.Need-total-requires
 total-requires c κs = sized-bounded _ _ _ (accepted _ _ _ (sym (c .before .refusal .ensures) ∙ c .if1 .left))
 
 paint-blocks-requires : tie.Need-paint-blocks-requires
-paint-blocks-requires c κs = (accepted _ _ _ (sym (c .before .before .before .refusal .ensures) ∙ c .before .before .if1 .left), (omega arith, omega (arith, c .before .total .ensures .0)))
+paint-blocks-requires c κs =
+    let at-if1 = c .before .before in
+    let after-refusal = at-if1 .before in
+    (accepted _ _ _ (sym (after-refusal .refusal .ensures) ∙ at-if1 .if1 .left), (omega arith, omega (arith, c .before .total .ensures .0)))
 
 same-length : tie.Need-same-length
 same-length c = search needs
 
 returns-2 : tie.Need-returns-2
 returns-2 c =
-    let e = c .before .before .before .before .before .before .refusal .ensures in
-    let z = c .before .before .before .before .before .if1 .left in
-    (sym z ∙ e, image-painted _ _ _ _ e _ _ z (c .before .before .before .before .total .ensures .0) (c .before .before .paint-blocks .ensures .1))
+    let after-paint-blocks = c .before .before in
+    let after-total = after-paint-blocks .before .before in
+    let at-if1 = after-total .before in
+    let after-refusal = at-if1 .before in
+    let e = after-refusal .refusal .ensures in
+    let z = at-if1 .if1 .left in
+    (sym z ∙ e, image-painted _ _ _ _ e _ _ z (after-total .total .ensures .0) (after-paint-blocks .paint-blocks .ensures .1))
 
 pub decode-astc-spec : {M : Type 1} → statement M
 decode-astc-spec =

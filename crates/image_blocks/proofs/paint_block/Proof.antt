@@ -34,8 +34,8 @@ void-color-requires c κs = search needs
 
 fill-block-requires : tie.Need-fill-block-requires
 fill-block-requires c κs =
-    let start = c .before .before .before .before .before .before .before .before .before in
-    let given = start .pre .1 in
+    let at-start = c .before .before .before .before .before .before .before .before .before in
+    let given = at-start .pre .1 in
     (sized-bounded _ _ _ (given .0), (at-inside _ _ (given .1 .1 .0) (given .1 .0), given .0 .room))
 
 same-length : tie.Need-same-length
@@ -43,22 +43,26 @@ same-length c = search needs
 
 returns : tie.Need-returns
 returns c =
-    let asked = c .before .before .before .before .before .before in
-    let start = asked .before .before .before .before .before .before in
-    let given = start .pre .1 in
-    void-painted (start .args .«data» .now) (start .args .m) _ (start .args .at .block) (given .0) (given .1 .0) _ (part-is (start .args .«data» .now) (start .args .at .block)) _ (asked .before .load .ensures)
-    _ (given .1 .1 .0 .block) (start .args .lanes .now) (start .args .lanes .now) _ _ (given .1 .1 .1) _ _ (asked .void-answer .ensures) (c .before .before .before .before .void-color .ensures) (c .before .before .before .before .before .if1 .taken) (c .before .before .fill-block .ensures)
+    let after-fill-block = c .before .before in
+    let after-void-color = after-fill-block .before .before in
+    let at-if1 = after-void-color .before in
+    let after-void-answer = at-if1 .before in
+    let after-load = after-void-answer .before in
+    let at-start = after-load .before .before .before .before .before in
+    let given = at-start .pre .1 in
+    void-painted (at-start .args .«data» .now) (at-start .args .m) _ (at-start .args .at .block) (given .0) (given .1 .0) _ (part-is (at-start .args .«data» .now) (at-start .args .at .block)) _ (after-load .load .ensures)
+    _ (given .1 .1 .0 .block) (at-start .args .lanes .now) (at-start .args .lanes .now) _ _ (given .1 .1 .1) _ _ (after-void-answer .void-answer .ensures) (after-void-color .void-color .ensures) (at-if1 .if1 .taken) (after-fill-block .fill-block .ensures)
 
 decode-ordinary-requires : tie.Need-decode-ordinary-requires
 decode-ordinary-requires c κs =
-    let asked = c .before .before in
-    let start = asked .before .before .before .before .before .before in
-    (start .pre .0, (void-false _ _ (asked .void-answer .ensures) (c .before .if1 .left), start .pre .1 .0 .footprint))
+    let after-void-answer = c .before .before in
+    let at-start = after-void-answer .before .before .before .before .before .before in
+    (at-start .pre .0, (void-false _ _ (after-void-answer .void-answer .ensures) (c .before .if1 .left), at-start .pre .1 .0 .footprint))
 
 copy-block-requires : tie.Need-copy-block-requires
 copy-block-requires c κs =
-    let start = c .before .before .before .before .before .before .before .before .before .before .before .before in
-    let given = start .pre .1 in
+    let at-start = c .before .before .before .before .before .before .before .before .before .before .before .before in
+    let given = at-start .pre .1 in
     (sized-bounded _ _ _ (given .0), (at-inside _ _ (given .1 .1 .0) (given .1 .0), given .0 .room))
 
 same-length-2 : tie.Need-same-length-2
@@ -66,17 +70,19 @@ same-length-2 c = search needs
 
 returns-2 : tie.Need-returns-2
 returns-2 c =
-    let decoded = c .before .before .before .before .before .before in
-    let loaded = decoded .before .before .before .before in
-    let start = loaded .before .before .before .before .before in
-    let given = start .pre .1 in
-    legal-painted (start .args .«data» .now) (start .args .m) _ (start .args .at .block) (given .0) (given .1 .0) _ (part-is (start .args .«data» .now) (start .args .at .block)) _ (loaded .load .ensures)
-    _ (given .1 .1 .0 .block) (start .args .lanes .now) _ _ _ (given .1 .1 .1) _ (decoded .decode-ordinary .ensures .0) (decoded .decode-ordinary .ensures .1) (c .before .before .before .before .before .if2 .taken) (c .before .before .copy-block .ensures)
+    let after-copy-block = c .before .before in
+    let at-if2 = after-copy-block .before .before .before in
+    let after-decode-ordinary = at-if2 .before in
+    let after-load = after-decode-ordinary .before .before .before .before in
+    let at-start = after-load .before .before .before .before .before in
+    let given = at-start .pre .1 in
+    legal-painted (at-start .args .«data» .now) (at-start .args .m) _ (at-start .args .at .block) (given .0) (given .1 .0) _ (part-is (at-start .args .«data» .now) (at-start .args .at .block)) _ (after-load .load .ensures)
+    _ (given .1 .1 .0 .block) (at-start .args .lanes .now) _ _ _ (given .1 .1 .1) _ (after-decode-ordinary .decode-ordinary .ensures .0) (after-decode-ordinary .decode-ordinary .ensures .1) (at-if2 .if2 .taken) (after-copy-block .copy-block .ensures)
 
 fill-block-requires-2 : tie.Need-fill-block-requires-2
 fill-block-requires-2 c κs =
-    let start = c .before .before .before .before .before .before .before .before .before .before .before in
-    let given = start .pre .1 in
+    let at-start = c .before .before .before .before .before .before .before .before .before .before .before in
+    let given = at-start .pre .1 in
     (sized-bounded _ _ _ (given .0), (at-inside _ _ (given .1 .1 .0) (given .1 .0), given .0 .room))
 
 same-length-3 : tie.Need-same-length-3
@@ -84,13 +90,16 @@ same-length-3 c = search needs
 
 returns-3 : tie.Need-returns-3
 returns-3 c =
-    let decoded = c .before .before .before .before .before in
-    let tested = decoded .before .before in
-    let asked = tested .before in
-    let start = asked .before .before .before .before .before .before in
-    let given = start .pre .1 in
-    bad-painted (start .args .«data» .now) (start .args .m) _ (start .args .at .block) (given .0) (given .1 .0) _ (part-is (start .args .«data» .now) (start .args .at .block)) _ (asked .before .load .ensures)
-    _ (given .1 .1 .0 .block) (start .args .lanes .now) _ _ _ (given .1 .1 .1) _ (decoded .decode-ordinary .ensures .0) (decoded .decode-ordinary .ensures .1) _ (asked .void-answer .ensures) (tested .if1 .left) (c .before .before .before .before .if2 .left) (c .before .before .fill-block2 .ensures)
+    let after-fill-block2 = c .before .before in
+    let at-if2 = after-fill-block2 .before .before in
+    let after-decode-ordinary = at-if2 .before in
+    let at-if1 = after-decode-ordinary .before .before in
+    let after-void-answer = at-if1 .before in
+    let after-load = after-void-answer .before in
+    let at-start = after-load .before .before .before .before .before in
+    let given = at-start .pre .1 in
+    bad-painted (at-start .args .«data» .now) (at-start .args .m) _ (at-start .args .at .block) (given .0) (given .1 .0) _ (part-is (at-start .args .«data» .now) (at-start .args .at .block)) _ (after-load .load .ensures)
+    _ (given .1 .1 .0 .block) (at-start .args .lanes .now) _ _ _ (given .1 .1 .1) _ (after-decode-ordinary .decode-ordinary .ensures .0) (after-decode-ordinary .decode-ordinary .ensures .1) _ (after-void-answer .void-answer .ensures) (at-if1 .if1 .left) (at-if2 .if2 .left) (after-fill-block2 .fill-block2 .ensures)
 
 pub paint-block-spec : {M : Type 1} → statement M
 paint-block-spec =

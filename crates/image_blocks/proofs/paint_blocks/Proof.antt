@@ -26,46 +26,55 @@ make-tables-requires c κs = search needs
 
 along-requires : tie.Need-along-requires Inv-loop μ-loop
 along-requires c κs =
-    let bounded = sized-bounded _ _ _ (c .before .before .before .pre .0) in
+    let at-start = c .before .before .before in
+    let bounded = sized-bounded _ _ _ (at-start .pre .0) in
     (bounded .width .1, (bounded .sides .column, bounded .sides .width))
 
 rem-t12 : tie.Need-rem-t12 Inv-loop μ-loop
-rem-t12 c = omega (arith, c .along .ensures .0, some _ (sized-bounded _ _ _ (c .before .before .before .before .pre .0)))
+rem-t12 c =
+    let at-start = c .before .before .before .before in
+    omega (arith, c .along .ensures .0, some _ (sized-bounded _ _ _ (at-start .pre .0)))
 
 div-t13 : tie.Need-div-t13 Inv-loop μ-loop
-div-t13 c = omega (arith, c .along .ensures .0, some _ (sized-bounded _ _ _ (c .before .before .before .before .pre .0)))
+div-t13 c =
+    let at-start = c .before .before .before .before in
+    omega (arith, c .along .ensures .0, some _ (sized-bounded _ _ _ (at-start .pre .0)))
 
 loop-holds : tie.Need-loop-holds Inv-loop μ-loop
 loop-holds c =
-    let start = c .before .before .before .before in
-    painting-first _ _ (start .args .first) _ _ _ _ (sized-bounded _ _ _ (start .pre .0)) (start .pre .1 .0) (c .along .ensures .0) (c .along .ensures .1) refl
+    let at-start = c .before .before .before .before in
+    painting-first _ _ (at-start .args .first) _ _ _ _ (sized-bounded _ _ _ (at-start .pre .0)) (at-start .pre .1 .0) (c .along .ensures .0) (c .along .ensures .1) refl
 
 paint-block-requires : tie.Need-paint-block-requires Inv-loop μ-loop
 paint-block-requires c κs =
     let turn = c .before .before .before .before .before .before .before .before .loop in
-    let start = c .before .before .before .before .before .before .before .before .before .before .before .before .before in
-    let inside : turn .at .block < totalOf (start .args .m) = omega (arith, start .pre .1 .1) in
-    (lent _ (c .before .before .before .before .before .before .before .before .before .before .make-tables .ensures), (same-sized _ _ _ _ (start .pre .0) (ap length (turn .inv .painted) ∙ length-painted _ _ _ _ _), (inside, (turn .inv .place, turn .inv .room))))
+    let after-make-tables = c .before .before .before .before .before .before .before .before .before .before in
+    let at-start = c .before .before .before .before .before .before .before .before .before .before .before .before .before in
+    let inside : turn .at .block < totalOf (at-start .args .m) = omega (arith, at-start .pre .1 .1) in
+    (lent _ (after-make-tables .make-tables .ensures), (same-sized _ _ _ _ (at-start .pre .0) (ap length (turn .inv .painted) ∙ length-painted _ _ _ _ _), (inside, (turn .inv .place, turn .inv .room))))
 
 bad-of-requires : tie.Need-bad-of-requires Inv-loop μ-loop
 bad-of-requires c κs = search needs
 
 add-bad : tie.Need-add-bad Inv-loop μ-loop
-add-bad c = omega (arith, c .before .before .before .before .before .before .before .before .before .before .before .before .loop .inv .few, c .bad-of .ensures .1)
+add-bad c =
+    let at-loop = c .before .before .before .before .before .before .before .before .before .before .before .before in
+    omega (arith, at-loop .loop .inv .few, c .bad-of .ensures .1)
 
 next-requires : tie.Need-next-requires Inv-loop μ-loop
 next-requires c κs =
-    let turn = c .before .before .before .before .before .before .before .before .before .before .before .before .loop in
-    (omega arith, (turn .inv .place .row, omega (arith, turn .inv .rows, turn .inv .place .column)))
+    let at-loop = c .before .before .before .before .before .before .before .before .before .before .before .before in
+    (omega arith, (at-loop .loop .inv .place .row, omega (arith, at-loop .loop .inv .rows, at-loop .loop .inv .place .column)))
 
 loop-less : tie.Need-loop-less Inv-loop μ-loop
 loop-less c = omega (arith, ap (λ (at : Spot). at .block) (c .next .ensures) ∙ next-block _ _)
 
 loop-again : tie.Need-loop-again Inv-loop μ-loop
 loop-again c =
+    let after-paint-block = c .before .before .before .before in
     let turn = c .before .before .before .before .before .before .before .before .before .before .before .before .before .loop in
-    let start = c .before .before .before .before .before .before .before .before .before .before .before .before .before .before .before .before .before .before in
-    painting-next _ _ _ _ _ _ _ _ _ _ (turn .inv) _ _ _ _ _ (sized-bounded _ _ _ (start .pre .0)) (omega arith) (c .next .ensures) (c .before .bad-of .ensures) (c .before .before .before .before .paint-block .ensures)
+    let at-start = c .before .before .before .before .before .before .before .before .before .before .before .before .before .before .before .before .before .before in
+    painting-next _ _ _ _ _ _ _ _ _ _ (turn .inv) _ _ _ _ _ (sized-bounded _ _ _ (at-start .pre .0)) (omega arith) (c .next .ensures) (c .before .bad-of .ensures) (after-paint-block .paint-block .ensures)
 
 same-length : tie.Need-same-length Inv-loop μ-loop
 same-length c = ap length (c .before .before .loop .inv .painted) ∙ length-painted _ _ _ _ _

@@ -24,22 +24,63 @@ mul-if4 : tie.Need-mul-if4
 mul-if4 c = search needs
 
 returns : tie.Need-returns
-returns c = let t = c .before .before in out-31 _ _ _ (sym (t .before .before .before .before .before .is-listed .ensures) ∙ t .before .before .before .before .if1 .taken) _ (sym (t .before .before .before .is-side .ensures) ∙ t .before .before .if2 .taken) (sym (t .before .is-side2 .ensures) ∙ t .if3 .taken) (c .before .total .ensures .0) (c .if4 .taken)
+returns c =
+    let at-if3 = c .before .before in
+    let after-is-side2 = at-if3 .before in
+    let at-if2 = after-is-side2 .before in
+    let after-is-side = at-if2 .before in
+    let at-if1 = after-is-side .before in
+    let after-is-listed = at-if1 .before in
+    out-31 _ _ _ (sym (after-is-listed .is-listed .ensures) ∙ at-if1 .if1 .taken) _ (sym (after-is-side .is-side .ensures) ∙ at-if2 .if2 .taken) (sym (after-is-side2 .is-side2 .ensures) ∙ at-if3 .if3 .taken) (c .before .total .ensures .0) (c .if4 .taken)
 
 mul-if5 : tie.Need-mul-if5
-mul-if5 c = let t = c .before .before .before in let s : ShapeBounds (t .before .before .before .before .before .before .args .m) = bounded-of _ (sym (t .before .before .before .before .before .is-listed .ensures) ∙ t .before .before .before .before .if1 .taken) (sym (t .before .before .before .is-side .ensures) ∙ t .before .before .if2 .taken) (sym (t .before .is-side2 .ensures) ∙ t .if3 .taken) in omega (arith, mul-le-mul (s .width .1) (s .height .1))
+mul-if5 c =
+    let at-if3 = c .before .before .before in
+    let after-is-side2 = at-if3 .before in
+    let at-if2 = after-is-side2 .before in
+    let after-is-side = at-if2 .before in
+    let at-if1 = after-is-side .before in
+    let after-is-listed = at-if1 .before in
+    let at-start = after-is-listed .before in
+    let s : ShapeBounds (at-start .args .m) = bounded-of _ (sym (after-is-listed .is-listed .ensures) ∙ at-if1 .if1 .taken) (sym (after-is-side .is-side .ensures) ∙ at-if2 .if2 .taken) (sym (after-is-side2 .is-side2 .ensures) ∙ at-if3 .if3 .taken) in omega (arith, mul-le-mul (s .width .1) (s .height .1))
 
 returns-2 : tie.Need-returns-2
-returns-2 c = let t = c .before .before .before .before in out-22 _ _ _ (sym (t .before .before .before .before .before .is-listed .ensures) ∙ t .before .before .before .before .if1 .taken) _ (sym (t .before .before .before .is-side .ensures) ∙ t .before .before .if2 .taken) (sym (t .before .is-side2 .ensures) ∙ t .if3 .taken) (c .before .before .before .total .ensures .0) (c .before .before .if4 .left) (c .if5 .taken)
+returns-2 c =
+    let at-if4 = c .before .before in
+    let after-total = at-if4 .before in
+    let at-if3 = after-total .before in
+    let after-is-side2 = at-if3 .before in
+    let at-if2 = after-is-side2 .before in
+    let after-is-side = at-if2 .before in
+    let at-if1 = after-is-side .before in
+    let after-is-listed = at-if1 .before in
+    out-22 _ _ _ (sym (after-is-listed .is-listed .ensures) ∙ at-if1 .if1 .taken) _ (sym (after-is-side .is-side .ensures) ∙ at-if2 .if2 .taken) (sym (after-is-side2 .is-side2 .ensures) ∙ at-if3 .if3 .taken) (after-total .total .ensures .0) (at-if4 .if4 .left) (c .if5 .taken)
 
 returns-3 : tie.Need-returns-3
-returns-3 c = let t = c .before .before .before .before in out-0 _ _ _ (sym (t .before .before .before .before .before .is-listed .ensures) ∙ t .before .before .before .before .if1 .taken) _ (sym (t .before .before .before .is-side .ensures) ∙ t .before .before .if2 .taken) (sym (t .before .is-side2 .ensures) ∙ t .if3 .taken) (c .before .before .before .total .ensures .0) (c .before .before .if4 .left) (c .if5 .left)
+returns-3 c =
+    let at-if4 = c .before .before in
+    let after-total = at-if4 .before in
+    let at-if3 = after-total .before in
+    let after-is-side2 = at-if3 .before in
+    let at-if2 = after-is-side2 .before in
+    let after-is-side = at-if2 .before in
+    let at-if1 = after-is-side .before in
+    let after-is-listed = at-if1 .before in
+    out-0 _ _ _ (sym (after-is-listed .is-listed .ensures) ∙ at-if1 .if1 .taken) _ (sym (after-is-side .is-side .ensures) ∙ at-if2 .if2 .taken) (sym (after-is-side2 .is-side2 .ensures) ∙ at-if3 .if3 .taken) (after-total .total .ensures .0) (at-if4 .if4 .left) (c .if5 .left)
 
 returns-4 : tie.Need-returns-4
-returns-4 c = out-high _ _ _ (sym (c .before .before .before .before .before .is-listed .ensures) ∙ c .before .before .before .before .if1 .taken) (sym (c .before .before .before .is-side .ensures) ∙ c .before .before .if2 .taken) (sym (c .before .is-side2 .ensures) ∙ c .if3 .left)
+returns-4 c =
+    let at-if2 = c .before .before in
+    let after-is-side = at-if2 .before in
+    let at-if1 = after-is-side .before in
+    let after-is-listed = at-if1 .before in
+    out-high _ _ _ (sym (after-is-listed .is-listed .ensures) ∙ at-if1 .if1 .taken) (sym (after-is-side .is-side .ensures) ∙ at-if2 .if2 .taken) (sym (c .before .is-side2 .ensures) ∙ c .if3 .left)
 
 returns-5 : tie.Need-returns-5
-returns-5 c = out-wide _ _ _ (sym (c .before .before .before .is-listed .ensures) ∙ c .before .before .if1 .taken) (sym (c .before .is-side .ensures) ∙ c .if2 .left)
+returns-5 c =
+    let at-if1 = c .before .before in
+    let after-is-listed = at-if1 .before in
+    out-wide _ _ _ (sym (after-is-listed .is-listed .ensures) ∙ at-if1 .if1 .taken) (sym (c .before .is-side .ensures) ∙ c .if2 .left)
 
 returns-6 : tie.Need-returns-6
 returns-6 c = out-21 _ _ _ (sym (c .before .is-listed .ensures) ∙ c .if1 .left)

@@ -19,13 +19,19 @@ total-requires c κs = sized-bounded _ _ _ (accepted _ _ _ (sym (c .before .befo
 
 returns-3 : tie.Need-returns-3
 returns-3 c =
-    let passed = sym (c .before .before .before .before .refusal .ensures) ∙ c .before .before .before .if1 .left in
-    step-34 _ _ _ _ _ passed _ (c .before .before .if2 .left) (c .before .total .ensures .0) (c .if3 .taken)
+    let at-if2 = c .before .before in
+    let at-if1 = at-if2 .before in
+    let after-refusal = at-if1 .before in
+    let passed = sym (after-refusal .refusal .ensures) ∙ at-if1 .if1 .left in
+    step-34 _ _ _ _ _ passed _ (at-if2 .if2 .left) (c .before .total .ensures .0) (c .if3 .taken)
 
 returns-4 : tie.Need-returns-4
 returns-4 c =
-    let passed = sym (c .before .before .before .before .refusal .ensures) ∙ c .before .before .before .if1 .left in
-    step-0 _ _ _ _ _ passed _ (c .before .before .if2 .left) (c .before .total .ensures .0) (c .if3 .left)
+    let at-if2 = c .before .before in
+    let at-if1 = at-if2 .before in
+    let after-refusal = at-if1 .before in
+    let passed = sym (after-refusal .refusal .ensures) ∙ at-if1 .if1 .left in
+    step-0 _ _ _ _ _ passed _ (at-if2 .if2 .left) (c .before .total .ensures .0) (c .if3 .left)
 
 pub step-refusal-spec : {M : Type 1} → statement M
 step-refusal-spec =

@@ -20,32 +20,35 @@ loop-holds c = (omega arith, rows-first _ _ _ _ _)
 
 mul-copy : tie.Need-mul-copy Inv-loop μ-loop
 mul-copy c =
+    let at-start = c .before .before .before in
     let l = c .before .loop in
-    let s = c .before .before .before in
-    let t : l .r < s .args .rows = omega arith in
-    omega (arith, s .pre .0 (l .r) t)
+    let t : l .r < at-start .args .rows = omega arith in
+    omega (arith, at-start .pre .0 (l .r) t)
 
 mul-copy-2 : tie.Need-mul-copy-2 Inv-loop μ-loop
 mul-copy-2 c =
-    let l = c .before .before .loop in
-    let s = c .before .before .before .before in
-    let t : l .r < s .args .rows = omega arith in
-    omega (arith, s .pre .1 (l .r) t)
+    let at-loop = c .before .before in
+    let at-start = at-loop .before .before in
+    let l = at-loop .loop in
+    let t : l .r < at-start .args .rows = omega arith in
+    omega (arith, at-start .pre .1 (l .r) t)
 
 add-copy : tie.Need-add-copy Inv-loop μ-loop
 add-copy c =
-    let l = c .before .before .loop in
-    let s = c .before .before .before .before in
-    let t : l .r < s .args .rows = omega arith in
-    omega (arith, s .pre .1 (l .r) t)
+    let at-loop = c .before .before in
+    let at-start = at-loop .before .before in
+    let l = at-loop .loop in
+    let t : l .r < at-start .args .rows = omega arith in
+    omega (arith, at-start .pre .1 (l .r) t)
 
 copy-requires : tie.Need-copy-requires Inv-loop μ-loop
 copy-requires c κs =
-    let l = c .before .before .loop in
-    let s = c .before .before .before .before in
-    let t : l .r < s .args .rows = omega arith in
-    let e : length (l .out) ≡ length (s .args .out .now) = ap length (l .inv .1) ∙ length-rowsPut _ _ _ _ _ _ in
-    (omega (arith, s .pre .0 (l .r) t), omega (arith, e, s .pre .1 (l .r) t))
+    let at-loop = c .before .before in
+    let at-start = at-loop .before .before in
+    let l = at-loop .loop in
+    let t : l .r < at-start .args .rows = omega arith in
+    let e : length (l .out) ≡ length (at-start .args .out .now) = ap length (l .inv .1) ∙ length-rowsPut _ _ _ _ _ _ in
+    (omega (arith, at-start .pre .0 (l .r) t), omega (arith, e, at-start .pre .1 (l .r) t))
 
 add-r : tie.Need-add-r Inv-loop μ-loop
 add-r c = omega arith
@@ -54,7 +57,10 @@ loop-less : tie.Need-loop-less Inv-loop μ-loop
 loop-less c = omega arith
 
 loop-again : tie.Need-loop-again Inv-loop μ-loop
-loop-again c = let l = c .before .before .before .before .before .loop in (omega arith, rows-turn _ _ _ _ (l .r) _ _ _ (l .inv .1) (c .before .before .copy .ensures))
+loop-again c =
+    let after-copy = c .before .before in
+    let at-loop = after-copy .before .before .before in
+    let l = at-loop .loop in (omega arith, rows-turn _ _ _ _ (l .r) _ _ _ (l .inv .1) (after-copy .copy .ensures))
 
 same-length : tie.Need-same-length Inv-loop μ-loop
 same-length c = ap length (c .before .loop .inv .1) ∙ length-rowsPut _ _ _ _ _ _

@@ -26,67 +26,122 @@ window-of-requires : tie.Need-window-of-requires
 window-of-requires c κs = search needs
 
 fill-rows-requires : tie.Need-fill-rows-requires
-fill-rows-requires c κs = fits (c .before .before .before .before) _ _ (c .before .before .window-of .ensures) (c .before .match .keys1)
+fill-rows-requires c κs =
+    let after-window-of = c .before .before in
+    let at-start = after-window-of .before .before in
+    fits at-start _ _ (after-window-of .window-of .ensures) (c .before .match .keys1)
 
 fill-rows-requires-2 : tie.Need-fill-rows-requires-2
-fill-rows-requires-2 c κs = fits (c .before .before .before .before) _ _ (c .before .before .window-of .ensures) (c .before .match .keys2)
+fill-rows-requires-2 c κs =
+    let after-window-of = c .before .before in
+    let at-start = after-window-of .before .before in
+    fits at-start _ _ (after-window-of .window-of .ensures) (c .before .match .keys2)
 
 fill-rows-requires-3 : tie.Need-fill-rows-requires-3
-fill-rows-requires-3 c κs = fits (c .before .before .before .before) _ _ (c .before .before .window-of .ensures) (c .before .match .keys3)
+fill-rows-requires-3 c κs =
+    let after-window-of = c .before .before in
+    let at-start = after-window-of .before .before in
+    fits at-start _ _ (after-window-of .window-of .ensures) (c .before .match .keys3)
 
 fill-rows-requires-4 : tie.Need-fill-rows-requires-4
-fill-rows-requires-4 c κs = fits (c .before .before .before .before) _ _ (c .before .before .window-of .ensures) (c .before .match .keys4)
+fill-rows-requires-4 c κs =
+    let after-window-of = c .before .before in
+    let at-start = after-window-of .before .before in
+    fits at-start _ _ (after-window-of .window-of .ensures) (c .before .match .keys4)
 
 fill-rows-requires-5 : tie.Need-fill-rows-requires-5
-fill-rows-requires-5 c κs = fits (c .before .before .before .before) _ _ (c .before .before .window-of .ensures) (c .before .match .keys5)
+fill-rows-requires-5 c κs =
+    let after-window-of = c .before .before in
+    let at-start = after-window-of .before .before in
+    fits at-start _ _ (after-window-of .window-of .ensures) (c .before .match .keys5)
 
 fill-rows-requires-6 : tie.Need-fill-rows-requires-6
-fill-rows-requires-6 c κs = fits (c .before .before .before .before) _ _ (c .before .before .window-of .ensures) (c .before .match .keys6)
+fill-rows-requires-6 c κs =
+    let after-window-of = c .before .before in
+    let at-start = after-window-of .before .before in
+    fits at-start _ _ (after-window-of .window-of .ensures) (c .before .match .keys6)
 
 fill-rows-requires-7 : tie.Need-fill-rows-requires-7
-fill-rows-requires-7 c κs = fits (c .before .before .before .before) _ _ (c .before .before .window-of .ensures) (refl)
+fill-rows-requires-7 c κs =
+    let after-window-of = c .before .before in
+    let at-start = after-window-of .before .before in
+    fits at-start _ _ (after-window-of .window-of .ensures) (refl)
 
 same-length : tie.Need-same-length
 same-length c = search needs
 
 returns : tie.Need-returns
-returns c = painted (c .before .before .before .before .before .before .before) _ _ (c .before .before .before .before .before .window-of .ensures) (c .before .before .before .before .match .keys1) _ (c .before .before .fill-rows .ensures)
+returns c =
+    let after-fill-rows = c .before .before in
+    let at-match = after-fill-rows .before .before in
+    let after-window-of = at-match .before in
+    let at-start = after-window-of .before .before in
+    painted at-start _ _ (after-window-of .window-of .ensures) (at-match .match .keys1) _ (after-fill-rows .fill-rows .ensures)
 
 same-length-2 : tie.Need-same-length-2
 same-length-2 c = search needs
 
 returns-2 : tie.Need-returns-2
-returns-2 c = painted (c .before .before .before .before .before .before .before) _ _ (c .before .before .before .before .before .window-of .ensures) (c .before .before .before .before .match .keys2) _ (c .before .before .fill-rows2 .ensures)
+returns-2 c =
+    let after-fill-rows2 = c .before .before in
+    let at-match = after-fill-rows2 .before .before in
+    let after-window-of = at-match .before in
+    let at-start = after-window-of .before .before in
+    painted at-start _ _ (after-window-of .window-of .ensures) (at-match .match .keys2) _ (after-fill-rows2 .fill-rows2 .ensures)
 
 same-length-3 : tie.Need-same-length-3
 same-length-3 c = search needs
 
 returns-3 : tie.Need-returns-3
-returns-3 c = painted (c .before .before .before .before .before .before .before) _ _ (c .before .before .before .before .before .window-of .ensures) (c .before .before .before .before .match .keys3) _ (c .before .before .fill-rows3 .ensures)
+returns-3 c =
+    let after-fill-rows3 = c .before .before in
+    let at-match = after-fill-rows3 .before .before in
+    let after-window-of = at-match .before in
+    let at-start = after-window-of .before .before in
+    painted at-start _ _ (after-window-of .window-of .ensures) (at-match .match .keys3) _ (after-fill-rows3 .fill-rows3 .ensures)
 
 same-length-4 : tie.Need-same-length-4
 same-length-4 c = search needs
 
 returns-4 : tie.Need-returns-4
-returns-4 c = painted (c .before .before .before .before .before .before .before) _ _ (c .before .before .before .before .before .window-of .ensures) (c .before .before .before .before .match .keys4) _ (c .before .before .fill-rows4 .ensures)
+returns-4 c =
+    let after-fill-rows4 = c .before .before in
+    let at-match = after-fill-rows4 .before .before in
+    let after-window-of = at-match .before in
+    let at-start = after-window-of .before .before in
+    painted at-start _ _ (after-window-of .window-of .ensures) (at-match .match .keys4) _ (after-fill-rows4 .fill-rows4 .ensures)
 
 same-length-5 : tie.Need-same-length-5
 same-length-5 c = search needs
 
 returns-5 : tie.Need-returns-5
-returns-5 c = painted (c .before .before .before .before .before .before .before) _ _ (c .before .before .before .before .before .window-of .ensures) (c .before .before .before .before .match .keys5) _ (c .before .before .fill-rows5 .ensures)
+returns-5 c =
+    let after-fill-rows5 = c .before .before in
+    let at-match = after-fill-rows5 .before .before in
+    let after-window-of = at-match .before in
+    let at-start = after-window-of .before .before in
+    painted at-start _ _ (after-window-of .window-of .ensures) (at-match .match .keys5) _ (after-fill-rows5 .fill-rows5 .ensures)
 
 same-length-6 : tie.Need-same-length-6
 same-length-6 c = search needs
 
 returns-6 : tie.Need-returns-6
-returns-6 c = painted (c .before .before .before .before .before .before .before) _ _ (c .before .before .before .before .before .window-of .ensures) (c .before .before .before .before .match .keys6) _ (c .before .before .fill-rows6 .ensures)
+returns-6 c =
+    let after-fill-rows6 = c .before .before in
+    let at-match = after-fill-rows6 .before .before in
+    let after-window-of = at-match .before in
+    let at-start = after-window-of .before .before in
+    painted at-start _ _ (after-window-of .window-of .ensures) (at-match .match .keys6) _ (after-fill-rows6 .fill-rows6 .ensures)
 
 same-length-7 : tie.Need-same-length-7
 same-length-7 c = search needs
 
 returns-7 : tie.Need-returns-7
-returns-7 c = painted (c .before .before .before .before .before .before .before) _ _ (c .before .before .before .before .before .window-of .ensures) (refl) _ (c .before .before .fill-rows7 .ensures)
+returns-7 c =
+    let after-fill-rows7 = c .before .before in
+    let after-window-of = after-fill-rows7 .before .before .before in
+    let at-start = after-window-of .before .before in
+    painted at-start _ _ (after-window-of .window-of .ensures) (refl) _ (after-fill-rows7 .fill-rows7 .ensures)
 
 pub fill-block-spec : {M : Type 1} → statement M
 fill-block-spec =

@@ -19,25 +19,28 @@ loop-holds c = (omega arith, rows-first _ _ _ _ _)
 
 mul-fill : tie.Need-mul-fill Inv-loop μ-loop
 mul-fill c =
-    let l = c .before .before .loop in
-    let s = c .before .before .before .before in
-    let t : l .r < s .args .rows = omega arith in
-    omega (arith, s .pre (l .r) t)
+    let at-loop = c .before .before in
+    let at-start = at-loop .before .before in
+    let l = at-loop .loop in
+    let t : l .r < at-start .args .rows = omega arith in
+    omega (arith, at-start .pre (l .r) t)
 
 add-fill : tie.Need-add-fill Inv-loop μ-loop
 add-fill c =
-    let l = c .before .before .loop in
-    let s = c .before .before .before .before in
-    let t : l .r < s .args .rows = omega arith in
-    omega (arith, s .pre (l .r) t)
+    let at-loop = c .before .before in
+    let at-start = at-loop .before .before in
+    let l = at-loop .loop in
+    let t : l .r < at-start .args .rows = omega arith in
+    omega (arith, at-start .pre (l .r) t)
 
 fill-requires : tie.Need-fill-requires Inv-loop μ-loop
 fill-requires c κs =
-    let l = c .before .before .loop in
-    let s = c .before .before .before .before in
-    let t : l .r < s .args .rows = omega arith in
-    let e : length (l .out) ≡ length (s .args .out .now) = ap length (l .inv .1) ∙ length-rowsPut _ _ _ _ _ _ in
-    omega (arith, e, s .pre (l .r) t)
+    let at-loop = c .before .before in
+    let at-start = at-loop .before .before in
+    let l = at-loop .loop in
+    let t : l .r < at-start .args .rows = omega arith in
+    let e : length (l .out) ≡ length (at-start .args .out .now) = ap length (l .inv .1) ∙ length-rowsPut _ _ _ _ _ _ in
+    omega (arith, e, at-start .pre (l .r) t)
 
 add-r : tie.Need-add-r Inv-loop μ-loop
 add-r c = omega arith
@@ -46,7 +49,10 @@ loop-less : tie.Need-loop-less Inv-loop μ-loop
 loop-less c = omega arith
 
 loop-again : tie.Need-loop-again Inv-loop μ-loop
-loop-again c = let l = c .before .before .before .before .before .loop in (omega arith, rows-turn _ _ _ _ (l .r) _ _ _ (l .inv .1) (c .before .before .fill .ensures))
+loop-again c =
+    let after-fill = c .before .before in
+    let at-loop = after-fill .before .before .before in
+    let l = at-loop .loop in (omega arith, rows-turn _ _ _ _ (l .r) _ _ _ (l .inv .1) (after-fill .fill .ensures))
 
 same-length : tie.Need-same-length Inv-loop μ-loop
 same-length c = ap length (c .before .loop .inv .1) ∙ length-rowsPut _ _ _ _ _ _

@@ -28,9 +28,13 @@ smaller-requires-2 c κs = search needs
 
 returns : tie.Need-returns
 returns c =
-    let s = c .before .before .before .before .before .before .before in
-    let i = s .pre .1 in
-    window-is _ _ _ _ (c .before .before .before .before .before .before .left-of .ensures .0 ∙ left-is _ _ _ i) (c .before .before .before .before .before .top-of .ensures .0 ∙ top-is _ _ _ i) (c .before .before .before .before .place .ensures) (c .before .before .smaller .ensures) (c .smaller2 .ensures)
+    let after-smaller = c .before .before in
+    let after-place = after-smaller .before .before in
+    let after-top-of = after-place .before in
+    let after-left-of = after-top-of .before in
+    let at-start = after-left-of .before in
+    let i = at-start .pre .1 in
+    window-is _ _ _ _ (after-left-of .left-of .ensures .0 ∙ left-is _ _ _ i) (after-top-of .top-of .ensures .0 ∙ top-is _ _ _ i) (after-place .place .ensures) (after-smaller .smaller .ensures) (c .smaller2 .ensures)
 
 pub window-of-spec : {M : Type 1} → statement M
 window-of-spec =

@@ -31,8 +31,10 @@ mul-out c = omega arith
 
 slice-write-out : tie.Need-slice-write-out Inv-loop μ-loop
 slice-write-out c =
-    let l = c .before .before .loop in
-    let a = c .before .before .before .before .args in
+    let at-loop = c .before .before in
+    let at-start = at-loop .before .before in
+    let l = at-loop .loop in
+    let a = at-start .args in
     let e : length (l .out) ≡ length (a .out .now) = ap length (l .inv .1) ∙ length-putAt _ (a .to) (l .i) (a .out .now) in
     omega (arith, e)
 

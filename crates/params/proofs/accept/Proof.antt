@@ -21,7 +21,11 @@ modes-of-requires c κs = search needs
 
 returns : tie.Need-returns
 unfolding legal
-returns c = simp (c .modes-of .ensures, c .before .channel-of .ensures, c .before .before .mode-code .ensures .0, c .before .before .before .extra-field .ensures .0, c .before .before .before .before .end-range .ensures .0)
+returns c =
+    let after-mode-code = c .before .before in
+    let after-extra-field = after-mode-code .before in
+    let after-end-range = after-extra-field .before in
+    simp (c .modes-of .ensures, c .before .channel-of .ensures, after-mode-code .mode-code .ensures .0, after-extra-field .extra-field .ensures .0, after-end-range .end-range .ensures .0)
 
 pub accept-spec : {M : Type 1} → statement M
 accept-spec =

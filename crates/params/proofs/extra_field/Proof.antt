@@ -23,7 +23,9 @@ getbits-requires : tie.Need-getbits-requires
 getbits-requires c κs = search needs
 
 returns : tie.Need-returns
-returns c = extra-of _ _ _ (c .before .before .before .before .pre .small) (c .getbits .ensures .0)
+returns c =
+    let at-start = c .before .before .before .before in
+    extra-of _ _ _ (at-start .pre .small) (c .getbits .ensures .0)
 
 pub extra-field-spec : {M : Type 1} → statement M
 extra-field-spec =

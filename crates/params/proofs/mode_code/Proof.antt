@@ -17,7 +17,10 @@ add-result : tie.Need-add-result
 add-result c = search needs
 
 returns-2 : tie.Need-returns-2
-returns-2 c = code-based _ _ _ (c .before .before .before .before .pre .0 .small) (c .before .before .if1 .left) (c .before .upper-of .ensures .0)
+returns-2 c =
+    let at-if1 = c .before .before in
+    let at-start = at-if1 .before .before in
+    code-based _ _ _ (at-start .pre .0 .small) (at-if1 .if1 .left) (c .before .upper-of .ensures .0)
 
 pub mode-code-spec : {M : Type 1} → statement M
 mode-code-spec = tie.close (tie.spec returns upper-of-requires mul-result add-result returns-2)

@@ -33,7 +33,9 @@ sub-t9 c = search needs
 
 returns : tie.Need-returns
 unfolding legalMap
-returns c = simp (c .range-bits .ensures, c .before .top-of .ensures, c .before .before .before .before .end-range .ensures .0)
+returns c =
+    let after-end-range = c .before .before .before .before in
+    simp (c .range-bits .ensures, c .before .top-of .ensures, after-end-range .end-range .ensures .0)
 
 pub legal-map-spec : {M : Type 1} → statement M
 legal-map-spec =

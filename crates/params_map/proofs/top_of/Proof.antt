@@ -22,7 +22,9 @@ shl-result-2 : tie.Need-shl-result-2
 shl-result-2 c = search needs
 
 sub-result-2 : tie.Need-sub-result-2
-sub-result-2 c = shifted (c .before .before .before .args .q / 3) (omega arith) .1 .0
+sub-result-2 c =
+    let at-start = c .before .before .before in
+    shifted (at-start .args .q / 3) (omega arith) .1 .0
 
 sub-result-3 : tie.Need-sub-result-3
 sub-result-3 c = search needs
@@ -31,7 +33,9 @@ shl-result-3 : tie.Need-shl-result-3
 shl-result-3 c = search needs
 
 sub-result-4 : tie.Need-sub-result-4
-sub-result-4 c = shifted (c .before .before .before .args .q / 3 - 1) (omega arith) .1 .1
+sub-result-4 c =
+    let at-start = c .before .before .before in
+    shifted (at-start .args .q / 3 - 1) (omega arith) .1 .1
 
 returns-3 : tie.Need-returns-3
 returns-3 c = search top-trits

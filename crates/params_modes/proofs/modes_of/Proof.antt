@@ -16,7 +16,10 @@ mode-at-requires-4 : tie.Need-mode-at-requires-4
 mode-at-requires-4 c κs = search needs
 
 returns : tie.Need-returns
-returns c = simp (c .mode-at4 .ensures, c .before .mode-at3 .ensures, c .before .before .mode-at2 .ensures, c .before .before .before .mode-at .ensures)
+returns c =
+    let after-mode-at2 = c .before .before in
+    let after-mode-at = after-mode-at2 .before in
+    simp (c .mode-at4 .ensures, c .before .mode-at3 .ensures, after-mode-at2 .mode-at2 .ensures, after-mode-at .mode-at .ensures)
 
 pub modes-of-spec : {M : Type 1} → statement M
 modes-of-spec =

@@ -28,7 +28,10 @@ mul-n : tie.Need-mul-n Inv-loop μ-loop
 mul-n c = omega arith
 
 add-n-2 : tie.Need-add-n-2 Inv-loop μ-loop
-add-n-2 c = omega (arith, values-most _ _ (c .before .before .before .pre .0) (c .before .before .loop .i))
+add-n-2 c =
+    let at-loop = c .before .before in
+    let at-start = at-loop .before in
+    omega (arith, values-most _ _ (at-start .pre .0) (at-loop .loop .i))
 
 add-i : tie.Need-add-i Inv-loop μ-loop
 add-i c = omega arith

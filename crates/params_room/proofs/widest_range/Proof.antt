@@ -43,16 +43,20 @@ sub-result : tie.Need-sub-result
 sub-result c = search needs
 
 returns-2 : tie.Need-returns-2
-returns-2 c = (out-trits _ _ _ (c .before .before .before .pre) (c .before .before .whole-bits .ensures .0) (omega arith) (c .if2 .taken), omega arith)
+returns-2 c =
+    let after-whole-bits = c .before .before in
+    let at-start = after-whole-bits .before in
+    (out-trits _ _ _ (at-start .pre) (after-whole-bits .whole-bits .ensures .0) (omega arith) (c .if2 .taken), omega arith)
 
 sub-if3 : tie.Need-sub-if3
 sub-if3 c = search needs
 
 mul-if3 : tie.Need-mul-if3
 mul-if3 c =
-    let s = c .before .before .before in
-    let n : s .args .n ≤ 18 = s .pre .most in
-    let k : c .before .before .whole-bits .result - 2 ≤ 64 = omega arith in
+    let after-whole-bits = c .before .before in
+    let at-start = after-whole-bits .before in
+    let n : at-start .args .n ≤ 18 = at-start .pre .most in
+    let k : after-whole-bits .whole-bits .result - 2 ≤ 64 = omega arith in
     omega (arith, mul-le-mul k n)
 
 mul-if3-2 : tie.Need-mul-if3-2
@@ -63,9 +67,10 @@ add-if3 c = search needs
 
 add-if3-2 : tie.Need-add-if3-2
 add-if3-2 c =
-    let s = c .before .before .before in
-    let n : s .args .n ≤ 18 = s .pre .most in
-    let k : c .before .before .whole-bits .result - 2 ≤ 64 = omega arith in
+    let after-whole-bits = c .before .before in
+    let at-start = after-whole-bits .before in
+    let n : at-start .args .n ≤ 18 = at-start .pre .most in
+    let k : after-whole-bits .whole-bits .result - 2 ≤ 64 = omega arith in
     omega (arith, mul-le-mul k n)
 
 mul-result-2 : tie.Need-mul-result-2
@@ -75,7 +80,10 @@ sub-result-2 : tie.Need-sub-result-2
 sub-result-2 c = search needs
 
 returns-3 : tie.Need-returns-3
-returns-3 c = (out-quints _ _ _ (c .before .before .before .before .pre) (c .before .before .before .whole-bits .ensures .0) (omega arith) (omega arith) (c .if3 .taken), omega arith)
+returns-3 c =
+    let after-whole-bits = c .before .before .before in
+    let at-start = after-whole-bits .before in
+    (out-quints _ _ _ (at-start .pre) (after-whole-bits .whole-bits .ensures .0) (omega arith) (omega arith) (c .if3 .taken), omega arith)
 
 mul-result-3 : tie.Need-mul-result-3
 mul-result-3 c = search needs
@@ -84,7 +92,10 @@ sub-result-3 : tie.Need-sub-result-3
 sub-result-3 c = search needs
 
 returns-4 : tie.Need-returns-4
-returns-4 c = (out-plain _ _ _ (c .before .before .before .before .pre) (c .before .before .before .whole-bits .ensures .0) (omega arith) (omega arith) (omega arith), omega arith)
+returns-4 c =
+    let after-whole-bits = c .before .before .before in
+    let at-start = after-whole-bits .before in
+    (out-plain _ _ _ (at-start .pre) (after-whole-bits .whole-bits .ensures .0) (omega arith) (omega arith) (omega arith), omega arith)
 
 pub widest-range-spec : {M : Type 1} → statement M
 widest-range-spec =

@@ -42,13 +42,17 @@ returns-6 : tie.Need-returns-6
 returns-6 c = search on-planes
 
 judge-ends-requires : tie.Need-judge-ends-requires
-judge-ends-requires c κs = c .before .before .before .before .before .before .before .before .before .before .before .before .before .before .before .before .before .pre
+judge-ends-requires c κs =
+    let at-start = c .before .before .before .before .before .before .before .before .before .before .before .before .before .before .before .before .before in
+    at-start .pre
 
 returns-7 : tie.Need-returns-7
 returns-7 c = search on-ends-dual
 
 judge-ends-requires-2 : tie.Need-judge-ends-requires-2
-judge-ends-requires-2 c κs = c .before .before .before .before .before .before .before .before .before .before .before .before .before .before .before .pre
+judge-ends-requires-2 c κs =
+    let at-start = c .before .before .before .before .before .before .before .before .before .before .before .before .before .before .before in
+    at-start .pre
 
 returns-8 : tie.Need-returns-8
 returns-8 c = search on-ends

@@ -23,11 +23,15 @@ add-if2-2 c = search needs
 
 returns-2 : tie.Need-returns-2
 unfolding endVerdict
-returns-2 c = simp (le-ltb _ _ (c .before .before .before .if1 .left), lt-ltb _ _ (rw (c .before .used-bits .ensures) at (c .if2 .taken)))
+returns-2 c =
+    let at-if1 = c .before .before .before in
+    simp (le-ltb _ _ (at-if1 .if1 .left), lt-ltb _ _ (rw (c .before .used-bits .ensures) at (c .if2 .taken)))
 
 returns-3 : tie.Need-returns-3
 unfolding endVerdict
-returns-3 c = simp (le-ltb _ _ (c .before .before .before .if1 .left), le-ltb _ _ (rw (c .before .used-bits .ensures) at (c .if2 .left)))
+returns-3 c =
+    let at-if1 = c .before .before .before in
+    simp (le-ltb _ _ (at-if1 .if1 .left), le-ltb _ _ (rw (c .before .used-bits .ensures) at (c .if2 .left)))
 
 pub judge-ends-spec : {M : Type 1} → statement M
 judge-ends-spec =

@@ -19,50 +19,74 @@ loop-holds : tie.Need-loop-holds Inv-loop μ-loop
 loop-holds c = (omega arith, put-rows _ _ _)
 
 mul-row-of-four : tie.Need-mul-row-of-four Inv-loop μ-loop
-mul-row-of-four c = omega (arith, row-fits (c .before .before .before .args .f) (c .before .before .loop .t) (c .before .before .before .pre .1 .1 .1 .1) (c .before .loop-test .taken))
+mul-row-of-four c =
+    let at-loop = c .before .before in
+    let at-start = at-loop .before in
+    omega (arith, row-fits (at-start .args .f) (at-loop .loop .t) (at-start .pre .1 .1 .1 .1) (c .before .loop-test .taken))
 
 moved-requires : tie.Need-moved-requires Inv-loop μ-loop
-moved-requires c κs = let s = c .before .before .before in (s .pre .0, lt-of-lt-of-le (c .before .loop-test .taken) (s .pre .1 .1 .1 .1 .height))
+moved-requires c κs =
+    let at-start = c .before .before .before in
+    (at-start .pre .0, lt-of-lt-of-le (c .before .loop-test .taken) (at-start .pre .1 .1 .1 .1 .height))
 
 moved-requires-2 : tie.Need-moved-requires-2 Inv-loop μ-loop
-moved-requires-2 c κs = let s = c .before .before .before .before in (s .pre .1 .0, lt-of-lt-of-le (c .before .before .loop-test .taken) (s .pre .1 .1 .1 .1 .height))
+moved-requires-2 c κs =
+    let at-loop-test = c .before .before in
+    let at-start = at-loop-test .before .before in
+    (at-start .pre .1 .0, lt-of-lt-of-le (at-loop-test .loop-test .taken) (at-start .pre .1 .1 .1 .1 .height))
 
 moved-requires-3 : tie.Need-moved-requires-3 Inv-loop μ-loop
-moved-requires-3 c κs = let s = c .before .before .before .before .before in (s .pre .1 .1 .0, lt-of-lt-of-le (c .before .before .before .loop-test .taken) (s .pre .1 .1 .1 .1 .height))
+moved-requires-3 c κs =
+    let at-loop-test = c .before .before .before in
+    let at-start = at-loop-test .before .before in
+    (at-start .pre .1 .1 .0, lt-of-lt-of-le (at-loop-test .loop-test .taken) (at-start .pre .1 .1 .1 .1 .height))
 
 moved-requires-4 : tie.Need-moved-requires-4 Inv-loop μ-loop
-moved-requires-4 c κs = let s = c .before .before .before .before .before .before in (s .pre .1 .1 .1 .0, lt-of-lt-of-le (c .before .before .before .before .loop-test .taken) (s .pre .1 .1 .1 .1 .height))
+moved-requires-4 c κs =
+    let at-loop-test = c .before .before .before .before in
+    let at-start = at-loop-test .before .before in
+    (at-start .pre .1 .1 .1 .0, lt-of-lt-of-le (at-loop-test .loop-test .taken) (at-start .pre .1 .1 .1 .1 .height))
 
 row-of-four-requires : tie.Need-row-of-four-requires Inv-loop μ-loop
 row-of-four-requires c κs =
-    let s = c .before .before .before .before .before .before .before in
-    let t = c .before .before .before .before .before .before .loop .t in (
-      moved-gentle (s .args .a) _ t (c .before .before .before .moved .ensures) (s .pre .0),
+    let after-moved2 = c .before .before in
+    let after-moved = after-moved2 .before in
+    let at-loop-test = after-moved .before .before in
+    let at-loop = at-loop-test .before in
+    let at-start = at-loop .before in
+    let t = at-loop .loop .t in (
+      moved-gentle (at-start .args .a) _ t (after-moved .moved .ensures) (at-start .pre .0),
       (
-        moved-gentle (s .args .b) _ t (c .before .before .moved2 .ensures) (s .pre .1 .0),
+        moved-gentle (at-start .args .b) _ t (after-moved2 .moved2 .ensures) (at-start .pre .1 .0),
         (
-          moved-gentle (s .args .c) _ t (c .before .moved3 .ensures) (s .pre .1 .1 .0),
+          moved-gentle (at-start .args .c) _ t (c .before .moved3 .ensures) (at-start .pre .1 .1 .0),
           (
-            moved-gentle (s .args .d) _ t (c .moved4 .ensures) (s .pre .1 .1 .1 .0),
-            (row-fits (s .args .f) t (s .pre .1 .1 .1 .1) (c .before .before .before .before .before .loop-test .taken), s .pre .1 .1 .1 .1 .width),
+            moved-gentle (at-start .args .d) _ t (c .moved4 .ensures) (at-start .pre .1 .1 .1 .0),
+            (row-fits (at-start .args .f) t (at-start .pre .1 .1 .1 .1) (at-loop-test .loop-test .taken), at-start .pre .1 .1 .1 .1 .width),
           ),
         ),
       ),
     )
 
 add-t : tie.Need-add-t Inv-loop μ-loop
-add-t c = omega (arith, c .before .before .before .before .before .before .before .before .pre .1 .1 .1 .1 .height)
+add-t c =
+    let at-start = c .before .before .before .before .before .before .before .before in
+    omega (arith, at-start .pre .1 .1 .1 .1 .height)
 
 loop-less : tie.Need-loop-less Inv-loop μ-loop
 loop-less c = omega arith
 
 loop-again : tie.Need-loop-again Inv-loop μ-loop
 loop-again c =
-    let s = c .before .before .before .before .before .before .before .before in
-    let l = c .before .before .before .before .before .before .before .loop in (
+    let after-moved3 = c .before .before in
+    let after-moved2 = after-moved3 .before in
+    let after-moved = after-moved2 .before in
+    let at-loop = after-moved .before .before .before in
+    let at-start = at-loop .before in
+    let l = at-loop .loop in (
       omega arith,
-      four-turn (s .args .a) (s .args .b) (s .args .c) (s .args .d) _ _ _ _ (s .args .f .width) (l .t) _ _ _ (s .pre .1 .1 .1 .1 .column)
-          (c .before .before .before .before .moved .ensures) (c .before .before .before .moved2 .ensures) (c .before .before .moved3 .ensures) (c .before .moved4 .ensures) (l .inv .1) (c .row-of-four .ensures),
+      four-turn (at-start .args .a) (at-start .args .b) (at-start .args .c) (at-start .args .d) _ _ _ _ (at-start .args .f .width) (l .t) _ _ _ (at-start .pre .1 .1 .1 .1 .column)
+          (after-moved .moved .ensures) (after-moved2 .moved2 .ensures) (after-moved3 .moved3 .ensures) (c .before .moved4 .ensures) (l .inv .1) (c .row-of-four .ensures),
     )
 
 returns : tie.Need-returns Inv-loop μ-loop

@@ -21,13 +21,21 @@ in-row-requires : tie.Need-in-row-requires Inv-loop μ-loop
 in-row-requires c κs = let s = c .before .before in (s .pre .0, lt-of-lt-of-le (c .loop-test .taken) (s .pre .1 .1 .1 .1 .1))
 
 in-row-requires-2 : tie.Need-in-row-requires-2 Inv-loop μ-loop
-in-row-requires-2 c κs = let s = c .before .before .before in (s .pre .1 .0, lt-of-lt-of-le (c .before .loop-test .taken) (s .pre .1 .1 .1 .1 .1))
+in-row-requires-2 c κs =
+    let at-start = c .before .before .before in
+    (at-start .pre .1 .0, lt-of-lt-of-le (c .before .loop-test .taken) (at-start .pre .1 .1 .1 .1 .1))
 
 in-row-requires-3 : tie.Need-in-row-requires-3 Inv-loop μ-loop
-in-row-requires-3 c κs = let s = c .before .before .before .before in (s .pre .1 .1 .0, lt-of-lt-of-le (c .before .before .loop-test .taken) (s .pre .1 .1 .1 .1 .1))
+in-row-requires-3 c κs =
+    let at-loop-test = c .before .before in
+    let at-start = at-loop-test .before .before in
+    (at-start .pre .1 .1 .0, lt-of-lt-of-le (at-loop-test .loop-test .taken) (at-start .pre .1 .1 .1 .1 .1))
 
 in-row-requires-4 : tie.Need-in-row-requires-4 Inv-loop μ-loop
-in-row-requires-4 c κs = let s = c .before .before .before .before .before in (s .pre .1 .1 .1 .0, lt-of-lt-of-le (c .before .before .before .loop-test .taken) (s .pre .1 .1 .1 .1 .1))
+in-row-requires-4 c κs =
+    let at-loop-test = c .before .before .before in
+    let at-start = at-loop-test .before .before in
+    (at-start .pre .1 .1 .1 .0, lt-of-lt-of-le (at-loop-test .loop-test .taken) (at-start .pre .1 .1 .1 .1 .1))
 
 largest-of-four-requires : tie.Need-largest-of-four-requires Inv-loop μ-loop
 largest-of-four-requires c κs = tt
@@ -46,10 +54,14 @@ loop-less c = omega arith
 
 loop-again : tie.Need-loop-again Inv-loop μ-loop
 loop-again c =
-    let l = c .before .before .before .before .before .before .loop in (
+    let after-in-row3 = c .before .before in
+    let after-in-row2 = after-in-row3 .before in
+    let after-in-row = after-in-row2 .before in
+    let at-loop = after-in-row .before .before in
+    let l = at-loop .loop in (
       omega arith,
       putAt-turn _ _ (l .s) _ _ (l .out) (l .inv .1)
-          (rw (c .before .before .before .before .in-row .ensures, c .before .before .before .in-row2 .ensures, c .before .before .in-row3 .ensures, c .before .in-row4 .ensures) at (c .largest-of-four .ensures)),
+          (rw (after-in-row .in-row .ensures, after-in-row2 .in-row2 .ensures, after-in-row3 .in-row3 .ensures, c .before .in-row4 .ensures) at (c .largest-of-four .ensures)),
     )
 
 returns : tie.Need-returns Inv-loop μ-loop

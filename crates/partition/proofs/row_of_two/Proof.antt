@@ -40,8 +40,10 @@ loop-less c = omega arith
 
 loop-again : tie.Need-loop-again Inv-loop μ-loop
 loop-again c =
-    let l = c .before .before .before .before .loop in
-    (omega arith, putAt-turn _ _ (l .s) _ _ (l .out) (l .inv .1) (rw (c .before .before .in-row .ensures, c .before .in-row2 .ensures) at (c .larger-of-two .ensures)))
+    let after-in-row = c .before .before in
+    let at-loop = after-in-row .before .before in
+    let l = at-loop .loop in
+    (omega arith, putAt-turn _ _ (l .s) _ _ (l .out) (l .inv .1) (rw (after-in-row .in-row .ensures, c .before .in-row2 .ensures) at (c .larger-of-two .ensures)))
 
 returns : tie.Need-returns Inv-loop μ-loop
 returns c = let e : c .before .loop .s ≡ c .before .before .args .width = omega arith in rw e at (c .before .loop .inv .1)

@@ -32,69 +32,89 @@ ramp-of-requires-2 c κs = let scaled = c .before in (scaled .before .hash .ensu
 
 two-requires : tie.Need-two-requires
 two-requires c κs =
-    let second = c .before .before in
-    let scaled = second .before .before in
-    let small = scaled .scale-of .ensures .1 in
-    (ramp-held _ _ _ _ _ (second .before .ramp-of .ensures) small .gentle, (ramp-held _ _ _ _ _ (second .ramp-of2 .ensures) small .gentle, scaled .before .before .pre .1 .1))
+    let after-ramp-of2 = c .before .before in
+    let after-ramp-of = after-ramp-of2 .before in
+    let after-scale-of = after-ramp-of .before in
+    let at-start = after-scale-of .before .before in
+    let small = after-scale-of .scale-of .ensures .1 in
+    (ramp-held _ _ _ _ _ (after-ramp-of .ramp-of .ensures) small .gentle, (ramp-held _ _ _ _ _ (after-ramp-of2 .ramp-of2 .ensures) small .gentle, at-start .pre .1 .1))
 
 returns : tie.Need-returns
 returns c =
-    let second = c .before .before .before in
-    let scaled = second .before .before in
-    let start = scaled .before .before in
-    of-two (start .args .number) (start .args .parts) _ (start .args .f) _ _ (scaled .scale-of .ensures .0) (scaled .scale-of .ensures .1) _ _ (c .before .before .if1 .taken)
-    (second .before .ramp-of .ensures) (second .ramp-of2 .ensures) (c .two .ensures)
+    let at-if1 = c .before .before in
+    let after-ramp-of2 = at-if1 .before in
+    let after-ramp-of = after-ramp-of2 .before in
+    let after-scale-of = after-ramp-of .before in
+    let at-start = after-scale-of .before .before in
+    of-two (at-start .args .number) (at-start .args .parts) _ (at-start .args .f) _ _ (after-scale-of .scale-of .ensures .0) (after-scale-of .scale-of .ensures .1) _ _ (at-if1 .if1 .taken)
+    (after-ramp-of .ramp-of .ensures) (after-ramp-of2 .ramp-of2 .ensures) (c .two .ensures)
 
 ramp-of-requires-3 : tie.Need-ramp-of-requires-3
-ramp-of-requires-3 c κs = let scaled = c .before .before .before in (scaled .before .hash .ensures, (lit< tt, scaled .scale-of .ensures .1))
+ramp-of-requires-3 c κs =
+    let after-scale-of = c .before .before .before in
+    let after-hash = after-scale-of .before in
+    (after-hash .hash .ensures, (lit< tt, after-scale-of .scale-of .ensures .1))
 
 four-requires : tie.Need-four-requires
 four-requires c κs =
-    let third = c .before .before in
-    let second = third .before .before in
-    let scaled = second .before .before in
-    let small = scaled .scale-of .ensures .1 in (
-      ramp-held _ _ _ _ _ (second .before .ramp-of .ensures) small .gentle,
+    let after-ramp-of3 = c .before .before in
+    let after-ramp-of2 = after-ramp-of3 .before .before in
+    let after-ramp-of = after-ramp-of2 .before in
+    let after-scale-of = after-ramp-of .before in
+    let at-start = after-scale-of .before .before in
+    let small = after-scale-of .scale-of .ensures .1 in (
+      ramp-held _ _ _ _ _ (after-ramp-of .ramp-of .ensures) small .gentle,
       (
-        ramp-held _ _ _ _ _ (second .ramp-of2 .ensures) small .gentle,
-        (ramp-held _ _ _ _ _ (third .ramp-of3 .ensures) small .gentle, (flat-gentle, scaled .before .before .pre .1 .1)),
+        ramp-held _ _ _ _ _ (after-ramp-of2 .ramp-of2 .ensures) small .gentle,
+        (ramp-held _ _ _ _ _ (after-ramp-of3 .ramp-of3 .ensures) small .gentle, (flat-gentle, at-start .pre .1 .1)),
       ),
     )
 
 returns-2 : tie.Need-returns-2
 returns-2 c =
-    let third = c .before .before .before in
-    let second = third .before .before in
-    let scaled = second .before .before in
-    let start = scaled .before .before in
-    of-three (start .args .number) (start .args .parts) _ (start .args .f) _ _ (scaled .scale-of .ensures .0) (scaled .scale-of .ensures .1) _ _ _ (c .before .before .if2 .taken)
-    (second .before .ramp-of .ensures) (second .ramp-of2 .ensures) (third .ramp-of3 .ensures) (c .four .ensures)
+    let at-if2 = c .before .before in
+    let after-ramp-of3 = at-if2 .before in
+    let after-ramp-of2 = after-ramp-of3 .before .before in
+    let after-ramp-of = after-ramp-of2 .before in
+    let after-scale-of = after-ramp-of .before in
+    let at-start = after-scale-of .before .before in
+    of-three (at-start .args .number) (at-start .args .parts) _ (at-start .args .f) _ _ (after-scale-of .scale-of .ensures .0) (after-scale-of .scale-of .ensures .1) _ _ _ (at-if2 .if2 .taken)
+    (after-ramp-of .ramp-of .ensures) (after-ramp-of2 .ramp-of2 .ensures) (after-ramp-of3 .ramp-of3 .ensures) (c .four .ensures)
 
 ramp-of-requires-4 : tie.Need-ramp-of-requires-4
-ramp-of-requires-4 c κs = let scaled = c .before .before .before .before .before in (scaled .before .hash .ensures, (lit< tt, scaled .scale-of .ensures .1))
+ramp-of-requires-4 c κs =
+    let after-scale-of = c .before .before .before .before .before in
+    let after-hash = after-scale-of .before in
+    (after-hash .hash .ensures, (lit< tt, after-scale-of .scale-of .ensures .1))
 
 four-requires-2 : tie.Need-four-requires-2
 four-requires-2 c κs =
-    let third = c .before .before .before in
-    let second = third .before .before in
-    let scaled = second .before .before in
-    let small = scaled .scale-of .ensures .1 in (
-      ramp-held _ _ _ _ _ (second .before .ramp-of .ensures) small .gentle,
+    let after-ramp-of3 = c .before .before .before in
+    let after-ramp-of2 = after-ramp-of3 .before .before in
+    let after-ramp-of = after-ramp-of2 .before in
+    let after-scale-of = after-ramp-of .before in
+    let at-start = after-scale-of .before .before in
+    let small = after-scale-of .scale-of .ensures .1 in (
+      ramp-held _ _ _ _ _ (after-ramp-of .ramp-of .ensures) small .gentle,
       (
-        ramp-held _ _ _ _ _ (second .ramp-of2 .ensures) small .gentle,
-        (ramp-held _ _ _ _ _ (third .ramp-of3 .ensures) small .gentle, (ramp-held _ _ _ _ _ (c .before .ramp-of4 .ensures) small .gentle, scaled .before .before .pre .1 .1)),
+        ramp-held _ _ _ _ _ (after-ramp-of2 .ramp-of2 .ensures) small .gentle,
+        (ramp-held _ _ _ _ _ (after-ramp-of3 .ramp-of3 .ensures) small .gentle, (ramp-held _ _ _ _ _ (c .before .ramp-of4 .ensures) small .gentle, at-start .pre .1 .1)),
       ),
     )
 
 returns-3 : tie.Need-returns-3
 returns-3 c =
-    let third = c .before .before .before .before in
-    let second = third .before .before in
-    let scaled = second .before .before in
-    let start = scaled .before .before in
-    of-four (start .args .number) (start .args .parts) _ (start .args .f) _ _ (scaled .scale-of .ensures .0) (scaled .scale-of .ensures .1) _ _ _ _
-    (last-count _ (start .pre .1 .0 .0) (third .before .if1 .left) (c .before .before .before .if2 .left)) (second .before .ramp-of .ensures) (second .ramp-of2 .ensures)
-    (third .ramp-of3 .ensures) (c .before .before .ramp-of4 .ensures) (c .four2 .ensures)
+    let after-ramp-of4 = c .before .before in
+    let at-if2 = after-ramp-of4 .before in
+    let after-ramp-of3 = at-if2 .before in
+    let at-if1 = after-ramp-of3 .before in
+    let after-ramp-of2 = at-if1 .before in
+    let after-ramp-of = after-ramp-of2 .before in
+    let after-scale-of = after-ramp-of .before in
+    let at-start = after-scale-of .before .before in
+    of-four (at-start .args .number) (at-start .args .parts) _ (at-start .args .f) _ _ (after-scale-of .scale-of .ensures .0) (after-scale-of .scale-of .ensures .1) _ _ _ _
+    (last-count _ (at-start .pre .1 .0 .0) (at-if1 .if1 .left) (at-if2 .if2 .left)) (after-ramp-of .ramp-of .ensures) (after-ramp-of2 .ramp-of2 .ensures)
+    (after-ramp-of3 .ramp-of3 .ensures) (after-ramp-of4 .ramp-of4 .ensures) (c .four2 .ensures)
 
 pub select-partition-spec : {M : Type 1} → statement M
 select-partition-spec =

@@ -19,22 +19,32 @@ loop-holds : tie.Need-loop-holds Inv-loop μ-loop
 loop-holds c = (omega arith, put-rows _ _ _)
 
 mul-row-of-two : tie.Need-mul-row-of-two Inv-loop μ-loop
-mul-row-of-two c = omega (arith, row-fits (c .before .before .before .args .f) (c .before .before .loop .t) (c .before .before .before .pre .1 .1) (c .before .loop-test .taken))
+mul-row-of-two c =
+    let at-loop = c .before .before in
+    let at-start = at-loop .before in
+    omega (arith, row-fits (at-start .args .f) (at-loop .loop .t) (at-start .pre .1 .1) (c .before .loop-test .taken))
 
 moved-requires : tie.Need-moved-requires Inv-loop μ-loop
-moved-requires c κs = let s = c .before .before .before in (s .pre .0, lt-of-lt-of-le (c .before .loop-test .taken) (s .pre .1 .1 .height))
+moved-requires c κs =
+    let at-start = c .before .before .before in
+    (at-start .pre .0, lt-of-lt-of-le (c .before .loop-test .taken) (at-start .pre .1 .1 .height))
 
 moved-requires-2 : tie.Need-moved-requires-2 Inv-loop μ-loop
-moved-requires-2 c κs = let s = c .before .before .before .before in (s .pre .1 .0, lt-of-lt-of-le (c .before .before .loop-test .taken) (s .pre .1 .1 .height))
+moved-requires-2 c κs =
+    let at-loop-test = c .before .before in
+    let at-start = at-loop-test .before .before in
+    (at-start .pre .1 .0, lt-of-lt-of-le (at-loop-test .loop-test .taken) (at-start .pre .1 .1 .height))
 
 row-of-two-requires : tie.Need-row-of-two-requires Inv-loop μ-loop
 row-of-two-requires c κs =
-    let s = c .before .before .before .before .before in
-    let t = c .before .before .before .before .loop .t in (
-      moved-gentle (s .args .a) _ t (c .before .moved .ensures) (s .pre .0),
+    let at-loop-test = c .before .before .before in
+    let at-loop = at-loop-test .before in
+    let at-start = at-loop .before in
+    let t = at-loop .loop .t in (
+      moved-gentle (at-start .args .a) _ t (c .before .moved .ensures) (at-start .pre .0),
       (
-        moved-gentle (s .args .b) _ t (c .moved2 .ensures) (s .pre .1 .0),
-        (row-fits (s .args .f) t (s .pre .1 .1) (c .before .before .before .loop-test .taken), s .pre .1 .1 .width),
+        moved-gentle (at-start .args .b) _ t (c .moved2 .ensures) (at-start .pre .1 .0),
+        (row-fits (at-start .args .f) t (at-start .pre .1 .1) (at-loop-test .loop-test .taken), at-start .pre .1 .1 .width),
       ),
     )
 
@@ -46,9 +56,11 @@ loop-less c = omega arith
 
 loop-again : tie.Need-loop-again Inv-loop μ-loop
 loop-again c =
-    let s = c .before .before .before .before .before .before in
-    let l = c .before .before .before .before .before .loop in
-    (omega arith, two-turn (s .args .a) (s .args .b) _ _ (s .args .f .width) (l .t) _ _ _ (s .pre .1 .1 .column) (c .before .before .moved .ensures) (c .before .moved2 .ensures) (l .inv .1) (c .row-of-two .ensures))
+    let after-moved = c .before .before in
+    let at-loop = after-moved .before .before .before in
+    let at-start = at-loop .before in
+    let l = at-loop .loop in
+    (omega arith, two-turn (at-start .args .a) (at-start .args .b) _ _ (at-start .args .f .width) (l .t) _ _ _ (at-start .pre .1 .1 .column) (after-moved .moved .ensures) (c .before .moved2 .ensures) (l .inv .1) (c .row-of-two .ensures))
 
 returns : tie.Need-returns Inv-loop μ-loop
 returns c = let e : c .before .loop .t ≡ c .before .before .args .f .height = omega arith in rw e at (c .before .loop .inv .1)

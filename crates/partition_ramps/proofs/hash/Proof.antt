@@ -22,13 +22,16 @@ wrapping-add-u32-requires-3 c κs = search needs
 
 returns : tie.Need-returns
 returns c =
-    let p : ℕ = c .before .before .before .before .args .seed in
-    let b : ℕ = c .before .before .before .wrapping-sub-u32 .result in
-    let d : ℕ = c .before .before .wrapping-add-u32 .result in
+    let after-wrapping-add-u32 = c .before .before in
+    let after-wrapping-sub-u32 = after-wrapping-add-u32 .before in
+    let at-start = after-wrapping-sub-u32 .before in
+    let p : ℕ = at-start .args .seed in
+    let b : ℕ = after-wrapping-sub-u32 .wrapping-sub-u32 .result in
+    let d : ℕ = after-wrapping-add-u32 .wrapping-add-u32 .result in
     let e : ℕ = c .before .wrapping-add-u322 .result in
     hash-steps p b d e (c .wrapping-add-u323 .result)
-    (wrapped-sub b (xorDown 15 p) (xorDown 15 p * 2 ^ 17 % 2 ^ 32) (omega arith) (omega arith) (c .before .before .before .wrapping-sub-u32 .ensures))
-    (c .before .before .wrapping-add-u32 .ensures ∙ wrapped-add b (b * 2 ^ 7))
+    (wrapped-sub b (xorDown 15 p) (xorDown 15 p * 2 ^ 17 % 2 ^ 32) (omega arith) (omega arith) (after-wrapping-sub-u32 .wrapping-sub-u32 .ensures))
+    (after-wrapping-add-u32 .wrapping-add-u32 .ensures ∙ wrapped-add b (b * 2 ^ 7))
     (c .before .wrapping-add-u322 .ensures ∙ wrapped-add d (d * 2 ^ 4))
     (c .wrapping-add-u323 .ensures ∙ wrapped-add (xorDown 5 e) (xorDown 5 e * 2 ^ 16))
 

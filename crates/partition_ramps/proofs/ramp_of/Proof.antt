@@ -43,16 +43,23 @@ shift-y-requires : tie.Need-shift-y-requires
 shift-y-requires c κs = search needs
 
 slope-requires-2 : tie.Need-slope-requires-2
-slope-requires-2 c κs = let a = c .before .before .before .args in let b = y-bounds (a .seed) (a .parts) in omega (arith, c .shift-y .ensures)
+slope-requires-2 c κs =
+    let at-start = c .before .before .before in
+    let a = at-start .args in let b = y-bounds (a .seed) (a .parts) in omega (arith, c .shift-y .ensures)
 
 mul-t19 : tie.Need-mul-t19
-mul-t19 c = omega (arith, mul-le-mul (c .before .before .before .before .pre .1 .1) (c .slope2 .ensures .1))
+mul-t19 c =
+    let at-start = c .before .before .before .before in
+    omega (arith, mul-le-mul (at-start .pre .1 .1) (c .slope2 .ensures .1))
 
 returns : tie.Need-returns
 returns c =
-    let a = c .before .before .before .before .args in
-    ramp-made (a .seed) (a .parts) (a .i) (a .scale) (a .r) _ _ (c .before .before .before .before .pre .0)
-    (c .before .before .slope .ensures .0 ∙ ap (factor (a .r) (8 * a .i)) (c .before .before .before .shift-x .ensures))
+    let after-slope = c .before .before in
+    let after-shift-x = after-slope .before in
+    let at-start = after-shift-x .before in
+    let a = at-start .args in
+    ramp-made (a .seed) (a .parts) (a .i) (a .scale) (a .r) _ _ (at-start .pre .0)
+    (after-slope .slope .ensures .0 ∙ ap (factor (a .r) (8 * a .i)) (after-shift-x .shift-x .ensures))
     (c .slope2 .ensures .0 ∙ ap (factor (a .r) (8 * a .i + 4)) (c .before .shift-y .ensures))
 
 pub ramp-of-spec : {M : Type 1} → statement M

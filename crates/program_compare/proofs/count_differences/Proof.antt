@@ -44,7 +44,8 @@ loop-less c = search needs
 loop-again : tie.Need-loop-again Inv-loop μ-loop
 unfolding differences
 loop-again c =
-    let l = c .before .before .before .before .loop in
+    let at-loop = c .before .before .before .before in
+    let l = at-loop .loop in
     (search needs, (rw (add-one (l .k), l .inv .1 .0, c .one-if .ensures .0, c .before .expected .ensures), omega (arith, c .one-if .ensures .1)))
 
 returns : tie.Need-returns Inv-loop μ-loop

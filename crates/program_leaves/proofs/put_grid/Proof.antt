@@ -9,9 +9,10 @@ values-of-requires c κs = search needs
 
 decode-weights-requires : tie.Need-decode-weights-requires
 decode-weights-requires c κs =
-    let s = c .before .before .before in
-    let e = c .before .before .values-of .ensures in
-    record { fits = s .pre .0; encoded = record { range = s .pre .1 .1; below = e .below; past = rw (s .pre .1 .0) at (e .past) }; clear = refl }
+    let after-values-of = c .before .before in
+    let at-start = after-values-of .before in
+    let e = after-values-of .values-of .ensures in
+    record { fits = at-start .pre .0; encoded = record { range = at-start .pre .1 .1; below = e .below; past = rw (at-start .pre .1 .0) at (e .past) }; clear = refl }
 
 put-weights-requires : tie.Need-put-weights-requires
 put-weights-requires c κs = search needs

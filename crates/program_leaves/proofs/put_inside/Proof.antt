@@ -15,7 +15,8 @@ returns-3 c = search needs
 
 put-planes-requires : tie.Need-put-planes-requires
 put-planes-requires c κs =
-    let p = c .before .before .before .before .before .before .before .before .before .before .before .before .pre in
+    let at-start = c .before .before .before .before .before .before .before .before .before .before .before .before in
+    let p = at-start .pre in
     (record { sides = p .0; wide = (omega arith, omega arith); high = (omega arith, omega arith) }, p .1)
 
 returns-4 : tie.Need-returns-4

@@ -14,7 +14,8 @@ unquantize-requires c κs = search needs
 
 decode-endpoints-requires : tie.Need-decode-endpoints-requires
 decode-endpoints-requires c κs =
-    let p = c .before .before .before .before .before .before .pre in
+    let at-start = c .before .before .before .before .before .before in
+    let p = at-start .pre in
     (p .0, (λ i h. p .1 .0 i, rw (p .1 .1 .0) at (p .1 .1 .1 .0)))
 
 array-copy-out-put-endpoints : tie.Need-array-copy-out-put-endpoints

@@ -15,23 +15,24 @@ returns-2 c = search needs
 
 mul-n : tie.Need-mul-n
 mul-n c =
-    let s = c .before .before .before .before .before in
-    let w : s .args .g .width ≤ 12 = le-trans (s .pre .0 .wide .1) (s .pre .0 .sides .width) in
-    let h : s .args .g .height ≤ 12 = le-trans (s .pre .0 .high .1) (s .pre .0 .sides .height) in
-    let p : s .args .g .planes ≤ 2 = omega arith in
+    let at-start = c .before .before .before .before .before in
+    let w : at-start .args .g .width ≤ 12 = le-trans (at-start .pre .0 .wide .1) (at-start .pre .0 .sides .width) in
+    let h : at-start .args .g .height ≤ 12 = le-trans (at-start .pre .0 .high .1) (at-start .pre .0 .sides .height) in
+    let p : at-start .args .g .planes ≤ 2 = omega arith in
     omega (arith, mul-le-mul w h, mul-le-mul (mul-le-mul w h) p)
 
 mul-n-2 : tie.Need-mul-n-2
 mul-n-2 c =
-    let s = c .before .before .before .before .before .before in
-    let w : s .args .g .width ≤ 12 = le-trans (s .pre .0 .wide .1) (s .pre .0 .sides .width) in
-    let h : s .args .g .height ≤ 12 = le-trans (s .pre .0 .high .1) (s .pre .0 .sides .height) in
-    let p : s .args .g .planes ≤ 2 = omega arith in
+    let at-start = c .before .before .before .before .before .before in
+    let w : at-start .args .g .width ≤ 12 = le-trans (at-start .pre .0 .wide .1) (at-start .pre .0 .sides .width) in
+    let h : at-start .args .g .height ≤ 12 = le-trans (at-start .pre .0 .high .1) (at-start .pre .0 .sides .height) in
+    let p : at-start .args .g .planes ≤ 2 = omega arith in
     omega (arith, mul-le-mul w h, mul-le-mul (mul-le-mul w h) p)
 
 put-grid-requires : tie.Need-put-grid-requires
 put-grid-requires c κs =
-    let p = c .before .before .before .before .before .before .before .before .pre in
+    let at-start = c .before .before .before .before .before .before .before .before in
+    let p = at-start .pre in
     let i = p .0 in
     (record { sides = i .sides; wide = i .wide; high = i .high; planes = (omega arith, omega arith); few = omega arith }, (refl, p .1))
 

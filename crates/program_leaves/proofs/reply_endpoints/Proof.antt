@@ -40,7 +40,11 @@ block-of-requires c κs = search needs
 
 put-modes-requires : tie.Need-put-modes-requires
 put-modes-requires c κs =
-    ((omega arith, omega arith), (all-four _ _ _ _ (c .before .before .before .before .before .mode-at .ensures) (c .before .before .before .before .mode-at2 .ensures) (c .before .before .before .mode-at3 .ensures) (c .before .before .mode-at4 .ensures), (omega arith, omega arith)))
+    let after-mode-at4 = c .before .before in
+    let after-mode-at3 = after-mode-at4 .before in
+    let after-mode-at2 = after-mode-at3 .before in
+    let after-mode-at = after-mode-at2 .before in
+    ((omega arith, omega arith), (all-four _ _ _ _ (after-mode-at .mode-at .ensures) (after-mode-at2 .mode-at2 .ensures) (after-mode-at3 .mode-at3 .ensures) (after-mode-at4 .mode-at4 .ensures), (omega arith, omega arith)))
 
 returns-5 : tie.Need-returns-5
 returns-5 c = search needs

@@ -31,7 +31,10 @@ block-of-requires : tie.Need-block-of-requires
 block-of-requires c κs = search needs
 
 put-inside-requires : tie.Need-put-inside-requires
-put-inside-requires c κs = (sides-of _ (sym (c .before .before .before .is-listed .ensures) ∙ c .before .before .if2 .taken), omega arith)
+put-inside-requires c κs =
+    let at-if2 = c .before .before in
+    let after-is-listed = at-if2 .before in
+    (sides-of _ (sym (after-is-listed .is-listed .ensures) ∙ at-if2 .if2 .taken), omega arith)
 
 returns-2 : tie.Need-returns-2
 returns-2 c = search needs

@@ -20,7 +20,9 @@ decode-intseq-reverse-requires : tie.Need-decode-intseq-reverse-requires
 decode-intseq-reverse-requires c κs = search needs
 
 returns : tie.Need-returns
-returns c = decoded _ _ _ _ _ (c .before .before .before .before .before .before .before .before .before .legal-range .ensures .0) (c .decode-intseq-reverse .ensures)
+returns c =
+    let after-legal-range = c .before .before .before .before .before .before .before .before .before in
+    decoded _ _ _ _ _ (after-legal-range .legal-range .ensures .0) (c .decode-intseq-reverse .ensures)
 
 trits-requires-2 : tie.Need-trits-requires-2
 trits-requires-2 c κs = search needs
@@ -32,7 +34,9 @@ decode-intseq-requires : tie.Need-decode-intseq-requires
 decode-intseq-requires c κs = search needs
 
 returns-2 : tie.Need-returns-2
-returns-2 c = decoded _ _ _ _ _ (c .before .before .before .before .before .before .before .legal-range .ensures .0) (c .decode-intseq .ensures)
+returns-2 c =
+    let after-legal-range = c .before .before .before .before .before .before .before in
+    decoded _ _ _ _ _ (after-legal-range .legal-range .ensures .0) (c .decode-intseq .ensures)
 
 pub values-of-spec : {M : Type 1} → statement M
 values-of-spec =

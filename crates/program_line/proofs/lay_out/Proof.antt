@@ -26,15 +26,16 @@ same-length c = search needs
 
 returns : tie.Need-returns
 returns c =
-    let newline = c .before .before in
-    let colour = newline .before .before .before .before .before in
-    let answer = colour .before .before .before .before .before in
-    let number = answer .before .before .before .before in
-    let s = number .before .before .before .args in
+    let after-put-text = c .before .before in
+    let after-put-colour = after-put-text .before .before .before .before .before in
+    let after-put-field = after-put-colour .before .before .before .before .before in
+    let after-put-number = after-put-field .before .before .before .before in
+    let at-start = after-put-number .before .before .before in
+    let s = at-start .args in
     let placed =
     placed-next
-    (placed-next (placed-next (number .put-number .ensures .0) (answer .put-field .ensures .0) (omega arith)) (colour .put-colour .ensures .0) (omega arith))
-    (newline .put-text .ensures) (omega arith)
+    (placed-next (placed-next (after-put-number .put-number .ensures .0) (after-put-field .put-field .ensures .0) (omega arith)) (after-put-colour .put-colour .ensures .0) (omega arith))
+    (after-put-text .put-text .ensures) (omega arith)
     in
     (rw (line-painted (s .number) (s .answer) (s .word) (omega arith)) at placed, omega arith)
 
@@ -49,12 +50,13 @@ same-length-2 c = search needs
 
 returns-2 : tie.Need-returns-2
 returns-2 c =
-    let newline = c .before .before in
-    let answer = newline .before .before .before .before .before .before in
-    let number = answer .before .before .before .before in
-    let s = number .before .before .before .args in
+    let after-put-text2 = c .before .before in
+    let after-put-field = after-put-text2 .before .before .before .before .before .before in
+    let after-put-number = after-put-field .before .before .before .before in
+    let at-start = after-put-number .before .before .before in
+    let s = at-start .args in
     let placed =
-    placed-next (placed-next (number .put-number .ensures .0) (answer .put-field .ensures .0) (omega arith)) (newline .put-text2 .ensures) (omega arith)
+    placed-next (placed-next (after-put-number .put-number .ensures .0) (after-put-field .put-field .ensures .0) (omega arith)) (after-put-text2 .put-text2 .ensures) (omega arith)
     in
     (rw (line-refused (s .number) (s .answer) (s .word) (omega arith)) at placed, omega arith)
 

@@ -34,10 +34,14 @@ same-length c = search needs
 
 returns : tie.Need-returns
 returns c =
-    let red = c .before .before .before .before .before .before .before .before .before .before .before .before .before .before .put-field .ensures .0 in
-    let green = c .before .before .before .before .before .before .before .before .before .before .put-field2 .ensures .0 in
-    let blue = c .before .before .before .before .before .before .put-field3 .ensures .0 in
-    let alpha = c .before .before .put-field4 .ensures .0 in
+    let after-put-field4 = c .before .before in
+    let after-put-field3 = after-put-field4 .before .before .before .before in
+    let after-put-field2 = after-put-field3 .before .before .before .before in
+    let after-put-field = after-put-field2 .before .before .before .before in
+    let red = after-put-field .put-field .ensures .0 in
+    let green = after-put-field2 .put-field2 .ensures .0 in
+    let blue = after-put-field3 .put-field3 .ensures .0 in
+    let alpha = after-put-field4 .put-field4 .ensures .0 in
     (placed-next (placed-next (placed-next red green (omega arith)) blue (omega arith)) alpha (omega arith), omega arith)
 
 pub put-colour-spec : {M : Type 1} → statement M

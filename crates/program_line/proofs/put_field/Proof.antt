@@ -18,7 +18,10 @@ same-length : tie.Need-same-length
 same-length c = search needs
 
 returns : tie.Need-returns
-returns c = (placed-next (c .before .before .before .before .before .before .put-text .ensures) (c .before .before .put-number .ensures .0) (omega arith), omega arith)
+returns c =
+    let after-put-number = c .before .before in
+    let after-put-text = after-put-number .before .before .before .before in
+    (placed-next (after-put-text .put-text .ensures) (after-put-number .put-number .ensures .0) (omega arith), omega arith)
 
 pub put-field-spec : {M : Type 1} → statement M
 put-field-spec =

@@ -5,7 +5,9 @@ use Rattle.program_listing.proofs.answer_of.Statement.{statement}
 use Rattle.program_listing.proofs.answer_of.Tie as tie
 
 returns : tie.Need-returns
-returns c = let s = c .before .before .before .args in short (s .bytes .now) (s .words .now) (c .if1 .taken)
+returns c =
+    let at-start = c .before .before .before in
+    let s = at-start .args in short (s .bytes .now) (s .words .now) (c .if1 .taken)
 
 shared-slice-read-usize-of : tie.Need-shared-slice-read-usize-of
 shared-slice-read-usize-of c = search needs
@@ -36,9 +38,13 @@ same-length c = search needs
 
 returns-2 : tie.Need-returns-2
 returns-2 c =
-    let d = c .before .before .decode-astc-block .ensures in
-    let s = c .before .before .before .before .before .before .before .before .before .before .before .before .args in
-    whole (s .bytes .now) (s .words .now) _ _ _ _ (c .before .before .before .before .before .before .before .usize-of .ensures) (c .before .before .before .before .before .usize-of2 .ensures) (d .0) (d .1)
+    let after-decode-astc-block = c .before .before in
+    let after-usize-of2 = after-decode-astc-block .before .before .before in
+    let after-usize-of = after-usize-of2 .before .before in
+    let at-start = after-usize-of .before .before .before .before .before in
+    let d = after-decode-astc-block .decode-astc-block .ensures in
+    let s = at-start .args in
+    whole (s .bytes .now) (s .words .now) _ _ _ _ (after-usize-of .usize-of .ensures) (after-usize-of2 .usize-of2 .ensures) (d .0) (d .1)
 
 pub answer-of-spec : {M : Type 1} → statement M
 answer-of-spec =

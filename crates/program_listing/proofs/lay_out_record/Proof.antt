@@ -20,9 +20,10 @@ same-length c = search needs
 
 returns : tie.Need-returns
 returns c =
-    let line = c .before .before in
-    let decoded = line .before .before .before .answer-of .ensures in
-    (rw (decoded .0, decoded .1) at (line .lay-out .ensures .0), line .lay-out .ensures .1)
+    let after-lay-out = c .before .before in
+    let after-answer-of = after-lay-out .before .before .before in
+    let decoded = after-answer-of .answer-of .ensures in
+    (rw (decoded .0, decoded .1) at (after-lay-out .lay-out .ensures .0), after-lay-out .lay-out .ensures .1)
 
 pub lay-out-record-spec : {M : Type 1} → statement M
 lay-out-record-spec =

@@ -26,9 +26,10 @@ count-record-requires c κs = search needs
 
 returns : tie.Need-returns
 returns c =
-    let decoded = c .before .before .before .before in
-    let foot = decoded .before .before .before .before .footprint-of .ensures .0 in
-    (rw (decoded .decode-astc-block .ensures .0, decoded .decode-astc-block .ensures .1, foot) at (c .count-record .ensures .0), c .count-record .ensures .1)
+    let after-decode-astc-block = c .before .before .before .before in
+    let after-footprint-of = after-decode-astc-block .before .before .before .before in
+    let foot = after-footprint-of .footprint-of .ensures .0 in
+    (rw (after-decode-astc-block .decode-astc-block .ensures .0, after-decode-astc-block .decode-astc-block .ensures .1, foot) at (c .count-record .ensures .0), c .count-record .ensures .1)
 
 pub replay-record-spec : {M : Type 1} → statement M
 replay-record-spec =

@@ -36,7 +36,10 @@ counted-requires c κs = search needs
 
 returns : tie.Need-returns
 returns c =
-    (c .counted .ensures ∙ rw (c .before .before .texels .ensures, c .before .differs .ensures), rw (c .before .before .before .added .ensures, c .before .before .before .before .before .usize-of .ensures .0))
+    let after-texels = c .before .before in
+    let after-added = after-texels .before in
+    let after-usize-of = after-added .before .before in
+    (c .counted .ensures ∙ rw (after-texels .texels .ensures, c .before .differs .ensures), rw (after-added .added .ensures, after-usize-of .usize-of .ensures .0))
 
 pub count-record-spec : {M : Type 1} → statement M
 count-record-spec =

@@ -19,7 +19,9 @@ added-requires-3 c κs = search needs
 returns : tie.Need-returns
 unfolding countedIn
 returns c =
-    rw (c .added3 .ensures, c .before .one-if .ensures .0, c .before .before .added2 .ensures, c .before .before .before .added .ensures)
+    let after-added2 = c .before .before in
+    let after-added = after-added2 .before in
+    rw (c .added3 .ensures, c .before .one-if .ensures .0, after-added2 .added2 .ensures, after-added .added .ensures)
 
 pub counted-spec : {M : Type 1} → statement M
 counted-spec =

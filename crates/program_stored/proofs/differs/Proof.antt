@@ -12,7 +12,8 @@ usize-of-requires c κs = search needs
 
 returns : tie.Need-returns
 returns c =
-    let s = c .before .before .before .args in
+    let at-start = c .before .before .before in
+    let s = at-start .args in
     other-answer (s .head .now) (s .stored .now) (s .answer) (c .before .usize-of .result) (s .words .now) (search needs) (c .if1 .taken)
 
 stored-words-requires : tie.Need-stored-words-requires
@@ -29,11 +30,13 @@ count-differences-requires c κs = search needs
 
 returns-2 : tie.Need-returns-2
 returns-2 c =
-    let whole = c .before .before .before .before in
-    let tested = whole .before in
-    let s = tested .before .before .before .args in
-    same-answer (s .head .now) (s .stored .now) (s .answer) (tested .before .usize-of .result) (s .words .now) (search needs) _ _ _ (tested .if1 .left) (search needs)
-    (whole .stored-words .ensures) (c .before .texels .ensures) (c .count-differences .ensures)
+    let after-stored-words = c .before .before .before .before in
+    let at-if1 = after-stored-words .before in
+    let after-usize-of = at-if1 .before in
+    let at-start = after-usize-of .before .before in
+    let s = at-start .args in
+    same-answer (s .head .now) (s .stored .now) (s .answer) (after-usize-of .usize-of .result) (s .words .now) (search needs) _ _ _ (at-if1 .if1 .left) (search needs)
+    (after-stored-words .stored-words .ensures) (c .before .texels .ensures) (c .count-differences .ensures)
 
 pub differs-spec : {M : Type 1} → statement M
 differs-spec =

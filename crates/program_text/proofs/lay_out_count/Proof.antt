@@ -22,9 +22,12 @@ same-length c = search needs
 
 returns : tie.Need-returns
 returns c =
-    let label = c .before .before .before .before .before .before .before .before .before .before .before .put-text .ensures in
-    let count = c .before .before .before .before .before .before .before .put-number .ensures .0 in
-    (placed-next (placed-next label count (omega arith)) (c .before .before .put-text2 .ensures) (omega arith), omega arith)
+    let after-put-text2 = c .before .before in
+    let after-put-number = after-put-text2 .before .before .before .before .before in
+    let after-put-text = after-put-number .before .before .before .before in
+    let label = after-put-text .put-text .ensures in
+    let count = after-put-number .put-number .ensures .0 in
+    (placed-next (placed-next label count (omega arith)) (after-put-text2 .put-text2 .ensures) (omega arith), omega arith)
 
 pub lay-out-count-spec : {M : Type 1} → statement M
 lay-out-count-spec =

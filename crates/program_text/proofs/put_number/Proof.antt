@@ -17,17 +17,22 @@ slice-aggregate-put-text c = search needs
 
 put-text-requires : tie.Need-put-text-requires
 put-text-requires c κs =
-    let d = c .before .before .decimal in
-    omega (arith, d .ensures .0 .1, fewest-most (d .result) _ (c .before .before .before .before .before .fits .n .fits) (d .ensures .1 .0))
+    let after-decimal = c .before .before in
+    let after-fits = after-decimal .before .before .before in
+    let d = after-decimal .decimal in
+    omega (arith, d .ensures .0 .1, fewest-most (d .result) _ (after-fits .fits .n .fits) (d .ensures .1 .0))
 
 same-length : tie.Need-same-length
 same-length c = search needs
 
 returns : tie.Need-returns
 returns c =
-    let d = c .before .before .before .before .before .decimal in
-    let p = c .before .before .put-text .ensures in
-    let small = c .before .before .before .before .before .before .before .before .fits .n .fits in
+    let after-put-text = c .before .before in
+    let after-decimal = after-put-text .before .before .before in
+    let after-fits = after-decimal .before .before .before in
+    let d = after-decimal .decimal in
+    let p = after-put-text .put-text .ensures in
+    let small = after-fits .fits .n .fits in
     let e = decimal-is (d .result) _ _ small (d .ensures .1 .0) (d .ensures .1 .1) in
     let k : d .result ≤ 20 = fewest-most (d .result) _ small (d .ensures .1 .0) in
     (rw e at p, omega (arith, d .ensures .0 .1, p .next))

@@ -34,8 +34,10 @@ loop-less c = omega arith
 
 loop-again : tie.Need-loop-again Inv-loop μ-loop
 loop-again c =
-    let l = c .before .before .loop in
-    let s = c .before .before .before .args in
+    let at-loop = c .before .before in
+    let at-start = at-loop .before in
+    let l = at-loop .loop in
+    let s = at-start .args in
     (omega arith, (placed-turn (s .line .now) (l .line) (s .text .now) (s .at) (l .i) (l .inv .1 .0) (omega arith) (omega arith), length-set (l .line) _ _ ∙ l .inv .1 .1))
 
 add-result : tie.Need-add-result Inv-loop μ-loop

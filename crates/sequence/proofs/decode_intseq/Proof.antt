@@ -17,8 +17,11 @@ decode-requires : tie.Need-decode-requires
 decode-requires c κs = search needs
 
 returns : tie.Need-returns
-returns c = let a = c .before .before .before .before .args in
-    let n : c .before .before .total .result ≡ totalOf (a .r) (a .n) = c .before .before .total .ensures in
+returns c =
+    let after-total = c .before .before in
+    let at-start = after-total .before .before in
+    let a = at-start .args in
+    let n : after-total .total .result ≡ totalOf (a .r) (a .n) = after-total .total .ensures in
     let v : valueOf (c .before .cut .result) ≡ bitsAt (valueOf (a .block)) (a .offset) (totalOf (a .r) (a .n)) = rw n at (c .before .cut .ensures) in
     rw v at (c .decode .ensures)
 

@@ -13,7 +13,9 @@ decode-intseq-requires : tie.Need-decode-intseq-requires
 decode-intseq-requires c κs = search needs
 
 returns : tie.Need-returns
-returns c = let a = c .before .before .before .args in
+returns c =
+    let at-start = c .before .before .before in
+    let a = at-start .args in
     let v : valueOf (c .before .reverse .result) ≡ reversed 128 (valueOf (a .block)) = c .before .reverse .ensures in
     rw v at (c .decode-intseq .ensures)
 

@@ -28,33 +28,48 @@ value-requires-2 c κs = let s = c .before in
     (le-trans (s .before .pre .2) (lit≤ tt), fits-next Quints (s .before .args .b) (s .before .args .d) _ (s .before .pre .2) (s .quint-digits .ensures) 1)
 
 add-out : tie.Need-add-out
-add-out c = near-fits _ 1 (c .before .before .before .pre .0) tt
+add-out c =
+    let at-start = c .before .before .before in
+    near-fits _ 1 (at-start .pre .0) tt
 
 element-write-out-2 : tie.Need-element-write-out-2
-element-write-out-2 c = near _ 1 (c .before .before .before .pre .0) tt
+element-write-out-2 c =
+    let at-start = c .before .before .before in
+    near _ 1 (at-start .pre .0) tt
 
 shr-m-2 : tie.Need-shr-m-2
-shr-m-2 c = lt-of-le-of-lt (c .before .before .before .pre .2) (lit< tt)
+shr-m-2 c =
+    let at-start = c .before .before .before in
+    lt-of-le-of-lt (at-start .pre .2) (lit< tt)
 
 value-requires-3 : tie.Need-value-requires-3
-value-requires-3 c κs = let s = c .before .before in
-    (le-trans (s .before .pre .2) (lit≤ tt), fits-next Quints (s .before .args .b) (s .before .args .d) _ (s .before .pre .2) (s .quint-digits .ensures) 2)
+value-requires-3 c κs =
+    let after-quint-digits = c .before .before in
+    let at-start = after-quint-digits .before in
+    (le-trans (at-start .pre .2) (lit≤ tt), fits-next Quints (at-start .args .b) (at-start .args .d) _ (at-start .pre .2) (after-quint-digits .quint-digits .ensures) 2)
 
 add-out-2 : tie.Need-add-out-2
-add-out-2 c = near-fits _ 2 (c .before .before .before .before .pre .0) tt
+add-out-2 c =
+    let at-start = c .before .before .before .before in
+    near-fits _ 2 (at-start .pre .0) tt
 
 element-write-out-3 : tie.Need-element-write-out-3
-element-write-out-3 c = near _ 2 (c .before .before .before .before .pre .0) tt
+element-write-out-3 c =
+    let at-start = c .before .before .before .before in
+    near _ 2 (at-start .pre .0) tt
 
 returns : tie.Need-returns
-returns c = let s = c .before .before .before in
-    let a = s .before .args in
-    let p = s .quint-digits .ensures in
+returns c =
+    let after-value = c .before .before in
+    let after-quint-digits = after-value .before in
+    let at-start = after-quint-digits .before in
+    let a = at-start .args in
+    let p = after-quint-digits .quint-digits .ensures in
     let r = range Quints (a .b) in
     let f = groupFrom r (a .d) (a .i) in
     put-step f (a .i) 2 _ _ _
     (put-step f (a .i) 1 _ _ _
-    (put-first f (a .i) _ _ (c .before .before .value .ensures ∙ value-first r (a .d) (a .i) _ p))
+    (put-first f (a .i) _ _ (after-value .value .ensures ∙ value-first r (a .d) (a .i) _ p))
     (c .before .value2 .ensures ∙ value-next r (a .d) (a .i) _ p 1))
     (c .value3 .ensures ∙ value-next r (a .d) (a .i) _ p 2)
 

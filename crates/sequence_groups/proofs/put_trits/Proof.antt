@@ -28,63 +28,96 @@ value-requires-2 c κs = let s = c .before in
     (le-trans (s .before .pre .2) (lit≤ tt), fits-next Trits (s .before .args .b) (s .before .args .d) _ (s .before .pre .2) (s .trit-digits .ensures) 1)
 
 add-out : tie.Need-add-out
-add-out c = near-fits _ 1 (c .before .before .before .pre .0) tt
+add-out c =
+    let at-start = c .before .before .before in
+    near-fits _ 1 (at-start .pre .0) tt
 
 element-write-out-2 : tie.Need-element-write-out-2
-element-write-out-2 c = near _ 1 (c .before .before .before .pre .0) tt
+element-write-out-2 c =
+    let at-start = c .before .before .before in
+    near _ 1 (at-start .pre .0) tt
 
 shr-m-2 : tie.Need-shr-m-2
-shr-m-2 c = lt-of-le-of-lt (c .before .before .before .pre .2) (lit< tt)
+shr-m-2 c =
+    let at-start = c .before .before .before in
+    lt-of-le-of-lt (at-start .pre .2) (lit< tt)
 
 value-requires-3 : tie.Need-value-requires-3
-value-requires-3 c κs = let s = c .before .before in
-    (le-trans (s .before .pre .2) (lit≤ tt), fits-next Trits (s .before .args .b) (s .before .args .d) _ (s .before .pre .2) (s .trit-digits .ensures) 2)
+value-requires-3 c κs =
+    let after-trit-digits = c .before .before in
+    let at-start = after-trit-digits .before in
+    (le-trans (at-start .pre .2) (lit≤ tt), fits-next Trits (at-start .args .b) (at-start .args .d) _ (at-start .pre .2) (after-trit-digits .trit-digits .ensures) 2)
 
 add-out-2 : tie.Need-add-out-2
-add-out-2 c = near-fits _ 2 (c .before .before .before .before .pre .0) tt
+add-out-2 c =
+    let at-start = c .before .before .before .before in
+    near-fits _ 2 (at-start .pre .0) tt
 
 element-write-out-3 : tie.Need-element-write-out-3
-element-write-out-3 c = near _ 2 (c .before .before .before .before .pre .0) tt
+element-write-out-3 c =
+    let at-start = c .before .before .before .before in
+    near _ 2 (at-start .pre .0) tt
 
 shr-m-3 : tie.Need-shr-m-3
-shr-m-3 c = lt-of-le-of-lt (c .before .before .before .before .pre .2) (lit< tt)
+shr-m-3 c =
+    let at-start = c .before .before .before .before in
+    lt-of-le-of-lt (at-start .pre .2) (lit< tt)
 
 value-requires-4 : tie.Need-value-requires-4
-value-requires-4 c κs = let s = c .before .before .before in
-    (le-trans (s .before .pre .2) (lit≤ tt), fits-next Trits (s .before .args .b) (s .before .args .d) _ (s .before .pre .2) (s .trit-digits .ensures) 3)
+value-requires-4 c κs =
+    let after-trit-digits = c .before .before .before in
+    let at-start = after-trit-digits .before in
+    (le-trans (at-start .pre .2) (lit≤ tt), fits-next Trits (at-start .args .b) (at-start .args .d) _ (at-start .pre .2) (after-trit-digits .trit-digits .ensures) 3)
 
 add-out-3 : tie.Need-add-out-3
-add-out-3 c = near-fits _ 3 (c .before .before .before .before .before .pre .0) tt
+add-out-3 c =
+    let at-start = c .before .before .before .before .before in
+    near-fits _ 3 (at-start .pre .0) tt
 
 element-write-out-4 : tie.Need-element-write-out-4
-element-write-out-4 c = near _ 3 (c .before .before .before .before .before .pre .0) tt
+element-write-out-4 c =
+    let at-start = c .before .before .before .before .before in
+    near _ 3 (at-start .pre .0) tt
 
 shr-m-4 : tie.Need-shr-m-4
-shr-m-4 c = lt-of-le-of-lt (c .before .before .before .before .before .pre .2) (lit< tt)
+shr-m-4 c =
+    let at-start = c .before .before .before .before .before in
+    lt-of-le-of-lt (at-start .pre .2) (lit< tt)
 
 value-requires-5 : tie.Need-value-requires-5
-value-requires-5 c κs = let s = c .before .before .before .before in
-    (le-trans (s .before .pre .2) (lit≤ tt), fits-next Trits (s .before .args .b) (s .before .args .d) _ (s .before .pre .2) (s .trit-digits .ensures) 4)
+value-requires-5 c κs =
+    let after-trit-digits = c .before .before .before .before in
+    let at-start = after-trit-digits .before in
+    (le-trans (at-start .pre .2) (lit≤ tt), fits-next Trits (at-start .args .b) (at-start .args .d) _ (at-start .pre .2) (after-trit-digits .trit-digits .ensures) 4)
 
 add-out-4 : tie.Need-add-out-4
-add-out-4 c = near-fits _ 4 (c .before .before .before .before .before .before .pre .0) tt
+add-out-4 c =
+    let at-start = c .before .before .before .before .before .before in
+    near-fits _ 4 (at-start .pre .0) tt
 
 element-write-out-5 : tie.Need-element-write-out-5
-element-write-out-5 c = near _ 4 (c .before .before .before .before .before .before .pre .0) tt
+element-write-out-5 c =
+    let at-start = c .before .before .before .before .before .before in
+    near _ 4 (at-start .pre .0) tt
 
 returns : tie.Need-returns
-returns c = let s = c .before .before .before .before .before in
-    let a = s .before .args in
-    let p = s .trit-digits .ensures in
+returns c =
+    let after-value3 = c .before .before in
+    let after-value2 = after-value3 .before in
+    let after-value = after-value2 .before in
+    let after-trit-digits = after-value .before in
+    let at-start = after-trit-digits .before in
+    let a = at-start .args in
+    let p = after-trit-digits .trit-digits .ensures in
     let r = range Trits (a .b) in
     let f = groupFrom r (a .d) (a .i) in
     put-step f (a .i) 4 _ _ _
     (put-step f (a .i) 3 _ _ _
     (put-step f (a .i) 2 _ _ _
     (put-step f (a .i) 1 _ _ _
-    (put-first f (a .i) _ _ (c .before .before .before .before .value .ensures ∙ value-first r (a .d) (a .i) _ p))
-    (c .before .before .before .value2 .ensures ∙ value-next r (a .d) (a .i) _ p 1))
-    (c .before .before .value3 .ensures ∙ value-next r (a .d) (a .i) _ p 2))
+    (put-first f (a .i) _ _ (after-value .value .ensures ∙ value-first r (a .d) (a .i) _ p))
+    (after-value2 .value2 .ensures ∙ value-next r (a .d) (a .i) _ p 1))
+    (after-value3 .value3 .ensures ∙ value-next r (a .d) (a .i) _ p 2))
     (c .before .value4 .ensures ∙ value-next r (a .d) (a .i) _ p 3))
     (c .value5 .ensures ∙ value-next r (a .d) (a .i) _ p 4)
 

@@ -25,34 +25,52 @@ loop-holds c = let a = c .before .args in
     turned-first (range Plain (a .b)) (valueOf (a .w)) (a .n) (a .out .now) (c .before .pre .0)
 
 put-plain-requires : tie.Need-put-plain-requires Inv-loop μ-loop
-put-plain-requires c κs = let s = c .before .before .before .before in (starts _ _ (c .before .loop-test .taken) (s .pre .2), s .pre .1)
+put-plain-requires c κs =
+    let at-start = c .before .before .before .before in
+    (starts _ _ (c .before .loop-test .taken) (at-start .pre .2), at-start .pre .1)
 
 mul-skip : tie.Need-mul-skip Inv-loop μ-loop
-mul-skip c = bits-fit _ 8 0 _ (c .before .before .before .before .before .pre .1) tt
+mul-skip c =
+    let at-start = c .before .before .before .before .before in
+    bits-fit _ 8 0 _ (at-start .pre .1) tt
 
 skip-requires : tie.Need-skip-requires Inv-loop μ-loop
 skip-requires c κs = search needs
 
 add-i : tie.Need-add-i Inv-loop μ-loop
-add-i c = next-fits _ _ 6 (c .before .before .before .loop-test .taken) (c .before .before .before .before .before .before .pre .2) tt
+add-i c =
+    let at-loop-test = c .before .before .before in
+    let at-start = at-loop-test .before .before .before in
+    next-fits _ _ 6 (at-loop-test .loop-test .taken) (at-start .pre .2) tt
 
 loop-less : tie.Need-loop-less Inv-loop μ-loop
-loop-less c = nearer _ _ 6 (c .before .before .before .loop-test .taken) tt
+loop-less c =
+    let at-loop-test = c .before .before .before in
+    nearer _ _ 6 (at-loop-test .loop-test .taken) tt
 
 loop-again : tie.Need-loop-again Inv-loop μ-loop
-loop-again c = let l = c .before .before .before .before .loop in
-    let s = c .before .before .before .before .before .before in
-    let a = s .args in
+loop-again c =
+    let at-loop-test = c .before .before .before in
+    let at-loop = at-loop-test .before in
+    let at-start = at-loop .before .before in
+    let l = at-loop .loop in
+    let a = at-start .args in
     turned-plain (a .b) (valueOf (a .w)) (a .n) (l .i) _ (l .s) (c .skip .result) (l .out) (c .before .put-plain .last .0)
-    (c .before .before .before .loop-test .taken) (s .pre .1) refl (l .inv) (c .before .put-plain .ensures) (c .skip .ensures)
+    (at-loop-test .loop-test .taken) (at-start .pre .1) refl (l .inv) (c .before .put-plain .ensures) (c .skip .ensures)
 
 clear-requires : tie.Need-clear-requires Inv-loop μ-loop
-clear-requires c κs = c .before .before .before .before .pre .2
+clear-requires c κs =
+    let at-start = c .before .before .before .before in
+    at-start .pre .2
 
 returns-2 : tie.Need-returns-2 Inv-loop μ-loop
-returns-2 c = let l = c .before .before .before .loop in
-    let a = c .before .before .before .before .before .args in
-    turned-last (range Plain (a .b)) (valueOf (a .w)) (a .n) (l .i) (valueOf (l .s)) (l .out) (c .clear .last .0) (c .before .before .loop-test .left) (l .inv) (c .clear .ensures)
+returns-2 c =
+    let at-loop-test = c .before .before in
+    let at-loop = at-loop-test .before in
+    let at-start = at-loop .before .before in
+    let l = at-loop .loop in
+    let a = at-start .args in
+    turned-last (range Plain (a .b)) (valueOf (a .w)) (a .n) (l .i) (valueOf (l .s)) (l .out) (c .clear .last .0) (at-loop-test .loop-test .left) (l .inv) (c .clear .ensures)
 
 pub decode-plain-spec : {M : Type 1} → statement M
 decode-plain-spec =

@@ -57,7 +57,10 @@ returns-8 : tie.Need-returns-8
 returns-8 c = values-arm Plain _ _ _ _ _ (c .decode-plain8 .ensures) (c .before .before .match .keys8)
 
 returns-9 : tie.Need-returns-9
-returns-9 c = values-last Plain _ _ _ _ _ (c .decode-plain9 .ensures) (c .before .before .before .pre .1) (c .before .before .match .rest)
+returns-9 c =
+    let at-match = c .before .before in
+    let at-start = at-match .before in
+    values-last Plain _ _ _ _ _ (c .decode-plain9 .ensures) (at-start .pre .1) (at-match .match .rest)
 
 pub decode-plain-by-spec : {M : Type 1} → statement M
 decode-plain-by-spec =

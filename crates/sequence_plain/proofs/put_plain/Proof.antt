@@ -34,49 +34,83 @@ low-requires-3 : tie.Need-low-requires-3
 low-requires-3 c κs = c .before .before .pre .1
 
 add-out-2 : tie.Need-add-out-2
-add-out-2 c = near-fits _ 2 (c .before .before .before .pre .0) tt
+add-out-2 c =
+    let at-start = c .before .before .before in
+    near-fits _ 2 (at-start .pre .0) tt
 
 element-write-out-3 : tie.Need-element-write-out-3
-element-write-out-3 c = near _ 2 (c .before .before .before .pre .0) tt
+element-write-out-3 c =
+    let at-start = c .before .before .before in
+    near _ 2 (at-start .pre .0) tt
 
 shr-m-3 : tie.Need-shr-m-3
-shr-m-3 c = lt-of-le-of-lt (c .before .before .before .pre .1) (lit< tt)
+shr-m-3 c =
+    let at-start = c .before .before .before in
+    lt-of-le-of-lt (at-start .pre .1) (lit< tt)
 
 low-requires-4 : tie.Need-low-requires-4
-low-requires-4 c κs = c .before .before .before .pre .1
+low-requires-4 c κs =
+    let at-start = c .before .before .before in
+    at-start .pre .1
 
 add-out-3 : tie.Need-add-out-3
-add-out-3 c = near-fits _ 3 (c .before .before .before .before .pre .0) tt
+add-out-3 c =
+    let at-start = c .before .before .before .before in
+    near-fits _ 3 (at-start .pre .0) tt
 
 element-write-out-4 : tie.Need-element-write-out-4
-element-write-out-4 c = near _ 3 (c .before .before .before .before .pre .0) tt
+element-write-out-4 c =
+    let at-start = c .before .before .before .before in
+    near _ 3 (at-start .pre .0) tt
 
 shr-m-4 : tie.Need-shr-m-4
-shr-m-4 c = lt-of-le-of-lt (c .before .before .before .before .pre .1) (lit< tt)
+shr-m-4 c =
+    let at-start = c .before .before .before .before in
+    lt-of-le-of-lt (at-start .pre .1) (lit< tt)
 
 low-requires-5 : tie.Need-low-requires-5
-low-requires-5 c κs = c .before .before .before .before .pre .1
+low-requires-5 c κs =
+    let at-start = c .before .before .before .before in
+    at-start .pre .1
 
 add-out-4 : tie.Need-add-out-4
-add-out-4 c = near-fits _ 4 (c .before .before .before .before .before .pre .0) tt
+add-out-4 c =
+    let at-start = c .before .before .before .before .before in
+    near-fits _ 4 (at-start .pre .0) tt
 
 element-write-out-5 : tie.Need-element-write-out-5
-element-write-out-5 c = near _ 4 (c .before .before .before .before .before .pre .0) tt
+element-write-out-5 c =
+    let at-start = c .before .before .before .before .before in
+    near _ 4 (at-start .pre .0) tt
 
 shr-m-5 : tie.Need-shr-m-5
-shr-m-5 c = lt-of-le-of-lt (c .before .before .before .before .before .pre .1) (lit< tt)
+shr-m-5 c =
+    let at-start = c .before .before .before .before .before in
+    lt-of-le-of-lt (at-start .pre .1) (lit< tt)
 
 low-requires-6 : tie.Need-low-requires-6
-low-requires-6 c κs = c .before .before .before .before .before .pre .1
+low-requires-6 c κs =
+    let at-start = c .before .before .before .before .before in
+    at-start .pre .1
 
 add-out-5 : tie.Need-add-out-5
-add-out-5 c = near-fits _ 5 (c .before .before .before .before .before .before .pre .0) tt
+add-out-5 c =
+    let at-start = c .before .before .before .before .before .before in
+    near-fits _ 5 (at-start .pre .0) tt
 
 element-write-out-6 : tie.Need-element-write-out-6
-element-write-out-6 c = near _ 5 (c .before .before .before .before .before .before .pre .0) tt
+element-write-out-6 c =
+    let at-start = c .before .before .before .before .before .before in
+    near _ 5 (at-start .pre .0) tt
 
 returns : tie.Need-returns
-returns c = let a = c .before .before .before .before .before .before .args in
+returns c =
+    let after-low4 = c .before .before in
+    let after-low3 = after-low4 .before in
+    let after-low2 = after-low3 .before in
+    let after-low = after-low2 .before in
+    let at-start = after-low .before in
+    let a = at-start .args in
     let f = plainFrom (a .b) (a .d) (a .i) in
     let next = plain-next (a .b) (a .d) (a .i) in
     put-step f (a .i) 5 _ _ _
@@ -84,10 +118,10 @@ returns c = let a = c .before .before .before .before .before .before .args in
     (put-step f (a .i) 3 _ _ _
     (put-step f (a .i) 2 _ _ _
     (put-step f (a .i) 1 _ _ _
-    (put-first f (a .i) _ _ (c .before .before .before .before .before .low .ensures ∙ plain-first (a .b) (a .d) (a .i)))
-    (c .before .before .before .before .low2 .ensures ∙ next 1))
-    (c .before .before .before .low3 .ensures ∙ next 2))
-    (c .before .before .low4 .ensures ∙ next 3))
+    (put-first f (a .i) _ _ (after-low .low .ensures ∙ plain-first (a .b) (a .d) (a .i)))
+    (after-low2 .low2 .ensures ∙ next 1))
+    (after-low3 .low3 .ensures ∙ next 2))
+    (after-low4 .low4 .ensures ∙ next 3))
     (c .before .low5 .ensures ∙ next 4))
     (c .low6 .ensures ∙ next 5)
 

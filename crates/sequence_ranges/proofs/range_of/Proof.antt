@@ -61,14 +61,20 @@ sub-t13 : tie.Need-sub-t13
 sub-t13 c = search needs
 
 returns-3 : tie.Need-returns-3
-returns-3 c = let q = c .before .before .before .args .q in
-    rw (ne-eqb q 0 (c .before .before .if1 .left), ne-eqb (q % 3) 2 (c .before .if2 .left), eq-eqb (q % 3) 1 (c .if3 .taken)) at
-    (law q (c .before .before .before .pre))
+returns-3 c =
+    let at-if1 = c .before .before in
+    let at-start = at-if1 .before in
+    let q = at-start .args .q in
+    rw (ne-eqb q 0 (at-if1 .if1 .left), ne-eqb (q % 3) 2 (c .before .if2 .left), eq-eqb (q % 3) 1 (c .if3 .taken)) at
+    (law q (at-start .pre))
 
 returns-4 : tie.Need-returns-4
-returns-4 c = let q = c .before .before .before .args .q in
-    rw (ne-eqb q 0 (c .before .before .if1 .left), ne-eqb (q % 3) 2 (c .before .if2 .left), ne-eqb (q % 3) 1 (c .if3 .left)) at
-    (law q (c .before .before .before .pre))
+returns-4 c =
+    let at-if1 = c .before .before in
+    let at-start = at-if1 .before in
+    let q = at-start .args .q in
+    rw (ne-eqb q 0 (at-if1 .if1 .left), ne-eqb (q % 3) 2 (c .before .if2 .left), ne-eqb (q % 3) 1 (c .if3 .left)) at
+    (law q (at-start .pre))
 
 pub range-of-spec : {M : Type 1} → statement M
 range-of-spec = tie.close (tie.spec returns add-t7 returns-2 sub-t13 returns-3 returns-4)

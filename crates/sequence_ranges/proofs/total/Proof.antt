@@ -26,7 +26,9 @@ add-result : tie.Need-add-result
 add-result c = search needs
 
 add-result-2 : tie.Need-add-result-2
-add-result-2 c = let s = c .before .before .before in omega (arith, bits-le (s .args .r) (s .args .n) mostWeights (s .pre .0) (s .pre .1))
+add-result-2 c =
+    let at-start = c .before .before .before in
+    omega (arith, bits-le (at-start .args .r) (at-start .args .n) mostWeights (at-start .pre .0) (at-start .pre .1))
 
 enum-told-3 : tie.Need-enum-told-3
 enum-told-3 c = search needs
@@ -38,11 +40,15 @@ add-result-3 : tie.Need-add-result-3
 add-result-3 c = search needs
 
 add-result-4 : tie.Need-add-result-4
-add-result-4 c = let s = c .before .before .before in omega (arith, bits-le (s .args .r) (s .args .n) mostWeights (s .pre .0) (s .pre .1))
+add-result-4 c =
+    let at-start = c .before .before .before in
+    omega (arith, bits-le (at-start .args .r) (at-start .args .n) mostWeights (at-start .pre .0) (at-start .pre .1))
 
 returns : tie.Need-returns
 unfolding totalOf
-returns c = let a = c .before .before .before .args in rw (c .enum-told .given .1, mul-zero (a .n)) (sym (add-zero (a .n * a .r .bits)))
+returns c =
+    let at-start = c .before .before .before in
+    let a = at-start .args in rw (c .enum-told .given .1, mul-zero (a .n)) (sym (add-zero (a .n * a .r .bits)))
 
 returns-2 : tie.Need-returns-2
 unfolding totalOf

@@ -39,7 +39,10 @@ returns-5 : tie.Need-returns-5
 returns-5 c = values-arm Quints _ _ _ _ _ (c .decode-quints5 .ensures) (c .before .before .match .keys5)
 
 returns-6 : tie.Need-returns-6
-returns-6 c = values-last Quints _ _ _ _ _ (c .decode-quints6 .ensures) (c .before .before .before .pre .2) (c .before .before .match .rest)
+returns-6 c =
+    let at-match = c .before .before in
+    let at-start = at-match .before in
+    values-last Quints _ _ _ _ _ (c .decode-quints6 .ensures) (at-start .pre .2) (at-match .match .rest)
 
 pub decode-quints-by-spec : {M : Type 1} → statement M
 decode-quints-by-spec =

@@ -19,38 +19,61 @@ loop-holds : tie.Need-loop-holds Inv-loop μ-loop
 loop-holds c = turned-first (range Trits (c .args .b)) (valueOf (c .args .w)) (c .args .n) (c .args .out .now) (c .pre .0)
 
 put-trits-requires : tie.Need-put-trits-requires Inv-loop μ-loop
-put-trits-requires c κs = let s = c .before .before .before in (starts _ _ (c .before .loop-test .taken) (s .pre .3), s .pre .1, s .pre .2)
+put-trits-requires c κs =
+    let at-start = c .before .before .before in
+    (starts _ _ (c .before .loop-test .taken) (at-start .pre .3), at-start .pre .1, at-start .pre .2)
 
 mul-skip : tie.Need-mul-skip Inv-loop μ-loop
-mul-skip c = bits-fit 5 6 8 _ (c .before .before .before .before .pre .2) tt
+mul-skip c =
+    let at-start = c .before .before .before .before in
+    bits-fit 5 6 8 _ (at-start .pre .2) tt
 
 add-skip : tie.Need-add-skip Inv-loop μ-loop
-add-skip c = size-fits 5 6 _ _ (c .before .before .before .before .pre .2) tt
+add-skip c =
+    let at-start = c .before .before .before .before in
+    size-fits 5 6 _ _ (at-start .pre .2) tt
 
 skip-requires : tie.Need-skip-requires Inv-loop μ-loop
-skip-requires c κs = (more _ _ tt, size-lt 5 6 _ _ (c .before .before .before .before .pre .2) tt)
+skip-requires c κs =
+    let at-start = c .before .before .before .before in
+    (more _ _ tt, size-lt 5 6 _ _ (at-start .pre .2) tt)
 
 add-i : tie.Need-add-i Inv-loop μ-loop
-add-i c = next-fits _ _ 5 (c .before .before .before .loop-test .taken) (c .before .before .before .before .before .pre .3) tt
+add-i c =
+    let at-loop-test = c .before .before .before in
+    let at-start = at-loop-test .before .before in
+    next-fits _ _ 5 (at-loop-test .loop-test .taken) (at-start .pre .3) tt
 
 loop-less : tie.Need-loop-less Inv-loop μ-loop
-loop-less c = nearer _ _ 5 (c .before .before .before .loop-test .taken) tt
+loop-less c =
+    let at-loop-test = c .before .before .before in
+    nearer _ _ 5 (at-loop-test .loop-test .taken) tt
 
 loop-again : tie.Need-loop-again Inv-loop μ-loop
 unfolding sizeOf
-loop-again c = let l = c .before .before .before .before .loop in
-    let a = c .before .before .before .before .before .args in
+loop-again c =
+    let at-loop-test = c .before .before .before in
+    let at-loop = at-loop-test .before in
+    let at-start = at-loop .before in
+    let l = at-loop .loop in
+    let a = at-start .args in
     turned-next (range Trits (a .b)) (valueOf (a .w)) (a .n) (l .i) _ (l .s) (c .skip .result) (l .out) (c .before .put-trits .last .0)
-    (c .before .before .before .loop-test .taken) (size-lt 5 6 _ _ (c .before .before .before .before .before .pre .2) tt)
+    (at-loop-test .loop-test .taken) (size-lt 5 6 _ _ (at-start .pre .2) tt)
     (add-comm (5 * a .b) _) (l .inv) (c .before .put-trits .ensures) (c .skip .ensures)
 
 clear-requires : tie.Need-clear-requires Inv-loop μ-loop
-clear-requires c κs = c .before .before .before .pre .3
+clear-requires c κs =
+    let at-start = c .before .before .before in
+    at-start .pre .3
 
 returns : tie.Need-returns Inv-loop μ-loop
-returns c = let l = c .before .before .before .loop in
-    let a = c .before .before .before .before .args in
-    turned-last (range Trits (a .b)) (valueOf (a .w)) (a .n) (l .i) (valueOf (l .s)) (l .out) (c .clear .last .0) (c .before .before .loop-test .left) (l .inv) (c .clear .ensures)
+returns c =
+    let at-loop-test = c .before .before in
+    let at-loop = at-loop-test .before in
+    let at-start = at-loop .before in
+    let l = at-loop .loop in
+    let a = at-start .args in
+    turned-last (range Trits (a .b)) (valueOf (a .w)) (a .n) (l .i) (valueOf (l .s)) (l .out) (c .clear .last .0) (at-loop-test .loop-test .left) (l .inv) (c .clear .ensures)
 
 pub decode-trits-spec : {M : Type 1} → statement M
 decode-trits-spec =

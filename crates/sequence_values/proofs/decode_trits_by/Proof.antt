@@ -45,7 +45,10 @@ returns-6 : tie.Need-returns-6
 returns-6 c = values-arm Trits _ _ _ _ _ (c .decode-trits6 .ensures) (c .before .before .match .keys6)
 
 returns-7 : tie.Need-returns-7
-returns-7 c = values-last Trits _ _ _ _ _ (c .decode-trits7 .ensures) (c .before .before .before .pre .2) (c .before .before .match .rest)
+returns-7 c =
+    let at-match = c .before .before in
+    let at-start = at-match .before in
+    values-last Trits _ _ _ _ _ (c .decode-trits7 .ensures) (at-start .pre .2) (at-match .match .rest)
 
 pub decode-trits-by-spec : {M : Type 1} → statement M
 decode-trits-by-spec =

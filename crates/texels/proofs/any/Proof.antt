@@ -15,7 +15,9 @@ returns-3 : tie.Need-returns-3
 returns-3 c = search needs
 
 returns-4 : tie.Need-returns-4
-returns-4 c = let e : c .before .before .before .args .p ≡ 3 = omega arith in rw e
+returns-4 c =
+    let at-start = c .before .before .before in
+    let e : at-start .args .p ≡ 3 = omega arith in rw e
 
 pub any-spec : {M : Type 1} → statement M
 any-spec = tie.close (tie.spec returns returns-2 returns-3 returns-4)

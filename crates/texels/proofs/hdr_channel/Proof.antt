@@ -19,7 +19,11 @@ select-color-hdr-requires : tie.Need-select-color-hdr-requires
 select-color-hdr-requires c κs = search needs
 
 returns : tie.Need-returns
-returns c = rw (c .before .before .before .before .u32-of .ensures, c .before .before .before .u32-of2 .ensures, c .before .u32-of3 .ensures, c .before .before .u16-of .ensures .0) at (c .select-color-hdr .ensures)
+returns c =
+    let after-u16-of = c .before .before in
+    let after-u32-of2 = after-u16-of .before in
+    let after-u32-of = after-u32-of2 .before in
+    rw (after-u32-of .u32-of .ensures, after-u32-of2 .u32-of2 .ensures, c .before .u32-of3 .ensures, after-u16-of .u16-of .ensures .0) at (c .select-color-hdr .ensures)
 
 pub hdr-channel-spec : {M : Type 1} → statement M
 hdr-channel-spec =

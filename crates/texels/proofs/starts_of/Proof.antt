@@ -16,10 +16,12 @@ start-requires-4 : tie.Need-start-requires-4
 start-requires-4 c κs = search needs
 
 returns : tie.Need-returns
-returns c = (
-  rw (c .before .before .before .start .ensures .0, c .before .before .start2 .ensures .0, c .before .start3 .ensures .0, c .start4 .ensures .0),
-  record { r = c .before .before .before .start .ensures .1; g = c .before .before .start2 .ensures .1; b = c .before .start3 .ensures .1; a = c .start4 .ensures .1 },
-)
+returns c =
+    let after-start2 = c .before .before in
+    let after-start = after-start2 .before in (
+      rw (after-start .start .ensures .0, after-start2 .start2 .ensures .0, c .before .start3 .ensures .0, c .start4 .ensures .0),
+      record { r = after-start .start .ensures .1; g = after-start2 .start2 .ensures .1; b = c .before .start3 .ensures .1; a = c .start4 .ensures .1 },
+    )
 
 pub starts-of-spec : {M : Type 1} → statement M
 starts-of-spec =

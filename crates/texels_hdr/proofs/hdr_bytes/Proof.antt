@@ -7,13 +7,19 @@ use Rattle.texels_hdr.proofs.hdr_bytes.Statement.{statement}
 use Rattle.texels_hdr.proofs.hdr_bytes.Tie as tie
 
 hdr-single-requires : tie.Need-hdr-single-requires
-hdr-single-requires c κs = let s = c .before .before .before .before in ((s .pre .0 .0, s .pre .0 .2, s .pre .0 .3 0, s .pre .0 .4 0), s .pre .1 .0)
+hdr-single-requires c κs =
+    let at-start = c .before .before .before .before in
+    ((at-start .pre .0 .0, at-start .pre .0 .2, at-start .pre .0 .3 0, at-start .pre .0 .4 0), at-start .pre .1 .0)
 
 hdr-two-requires : tie.Need-hdr-two-requires
-hdr-two-requires c κs = let s = c .before .before .before .before in ((s .pre .0 .0, s .pre .0 .2, s .pre .0 .3, s .pre .0 .4), (s .pre .1 .0, λ (i : ℕ). omega (arith, s .pre .1 .1 i)))
+hdr-two-requires c κs =
+    let at-start = c .before .before .before .before in
+    ((at-start .pre .0 .0, at-start .pre .0 .2, at-start .pre .0 .3, at-start .pre .0 .4), (at-start .pre .1 .0, λ (i : ℕ). omega (arith, at-start .pre .1 .1 i)))
 
 hdr-four-requires : tie.Need-hdr-four-requires
-hdr-four-requires c κs = let s = c .before .before .before .before in ((s .pre .0 .0, s .pre .0 .2, s .pre .0 .3, s .pre .0 .4), (s .pre .1 .0, λ (i : ℕ). omega (arith, s .pre .1 .1 i)))
+hdr-four-requires c κs =
+    let at-start = c .before .before .before .before in
+    ((at-start .pre .0 .0, at-start .pre .0 .2, at-start .pre .0 .3, at-start .pre .0 .4), (at-start .pre .1 .0, λ (i : ℕ). omega (arith, at-start .pre .1 .1 i)))
 
 returns : tie.Need-returns
 returns c = search hdr-first

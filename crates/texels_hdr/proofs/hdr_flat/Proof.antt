@@ -33,7 +33,9 @@ loop-less : tie.Need-loop-less Inv-loop μ-loop
 loop-less c = omega arith
 
 loop-again : tie.Need-loop-again Inv-loop μ-loop
-loop-again c = (omega arith, put-turn _ _ _ _ _ _ (c .before .loop .inv .1) zero-le (c .before .before .before .hdr-channel .ensures))
+loop-again c =
+    let after-hdr-channel = c .before .before .before in
+    (omega arith, put-turn _ _ _ _ _ _ (c .before .loop .inv .1) zero-le (after-hdr-channel .hdr-channel .ensures))
 
 returns : tie.Need-returns Inv-loop μ-loop
 returns c = put-end _ _ _ _ _ _ (c .before .loop .inv .1) (omega arith) (omega arith)

@@ -24,7 +24,9 @@ turn : (c : tie.In-loop Inv-loop μ-loop) → c .before .loop .i < eights (c .be
 turn c = omega arith
 
 within : (c : tie.In-loop Inv-loop μ-loop) → c .before .loop .i < mostTexels
-within c = inside (c .before .before .before .args .n) (turn c) (c .before .before .before .pre .0 .0)
+within c =
+    let at-start = c .before .before .before in
+    inside (at-start .args .n) (turn c) (at-start .pre .0 .0)
 
 eights-requires : tie.Need-eights-requires Inv-loop μ-loop
 eights-requires c κs = omega arith
@@ -36,35 +38,61 @@ element-copy-out-p : tie.Need-element-copy-out-p Inv-loop μ-loop
 element-copy-out-p c = within c
 
 any-requires : tie.Need-any-requires Inv-loop μ-loop
-any-requires c κs = c .before .before .before .before .pre .1 .1 (c .before .before .loop .i)
+any-requires c κs =
+    let at-loop = c .before .before in
+    let at-start = at-loop .before .before in
+    at-start .pre .1 .1 (at-loop .loop .i)
 
 any-requires-2 : tie.Need-any-requires-2 Inv-loop μ-loop
-any-requires-2 c κs = c .before .before .before .before .before .pre .1 .1 (c .before .before .before .loop .i)
+any-requires-2 c κs =
+    let at-loop = c .before .before .before in
+    let at-start = at-loop .before .before in
+    at-start .pre .1 .1 (at-loop .loop .i)
 
 add-hdr-channel : tie.Need-add-hdr-channel Inv-loop μ-loop
-add-hdr-channel c = weight-fits (within (c .before .before .before)) (c .before .before .before .before .before .before .pre .0 .1)
+add-hdr-channel c =
+    let in-loop = c .before .before .before in
+    let at-start = in-loop .before .before .before in
+    weight-fits (within in-loop) (at-start .pre .0 .1)
 
 element-copy-out-hdr-channel : tie.Need-element-copy-out-hdr-channel Inv-loop μ-loop
-element-copy-out-hdr-channel c = weight-in (within (c .before .before .before)) (c .before .before .before .before .before .before .pre .0 .1)
+element-copy-out-hdr-channel c =
+    let in-loop = c .before .before .before in
+    let at-start = in-loop .before .before .before in
+    weight-in (within in-loop) (at-start .pre .0 .1)
 
 hdr-channel-requires : tie.Need-hdr-channel-requires Inv-loop μ-loop
 hdr-channel-requires c κs =
-    let s = c .before .before .before .before .before .before .before in
-    let i = c .before .before .before .before .before .loop .i in
-    let p = getD (s .args .partitions .now) i 0 in
-    (four-wide (s .args .a) p (s .pre .0 .2) (c .before .before .any .ensures), four-wide (s .args .b) p (s .pre .0 .3) (c .before .any2 .ensures), s .pre .1 .0 (s .args .x + i))
+    let after-any = c .before .before in
+    let at-loop = after-any .before .before .before in
+    let at-start = at-loop .before .before in
+    let i = at-loop .loop .i in
+    let p = getD (at-start .args .partitions .now) i 0 in
+    (four-wide (at-start .args .a) p (at-start .pre .0 .2) (after-any .any .ensures), four-wide (at-start .args .b) p (at-start .pre .0 .3) (c .before .any2 .ensures), at-start .pre .1 .0 (at-start .args .x + i))
 
 element-write-out : tie.Need-element-write-out Inv-loop μ-loop
-element-write-out c = within (c .before .before .before .before .before)
+element-write-out c =
+    let in-loop = c .before .before .before .before .before in
+    within in-loop
 
 add-i : tie.Need-add-i Inv-loop μ-loop
-add-i c = next-fits (within (c .before .before .before .before .before))
+add-i c =
+    let in-loop = c .before .before .before .before .before in
+    next-fits (within in-loop)
 
 loop-less : tie.Need-loop-less Inv-loop μ-loop
-loop-less c = less-left (turn (c .before .before .before .before .before))
+loop-less c =
+    let in-loop = c .before .before .before .before .before in
+    less-left (turn in-loop)
 
 loop-again : tie.Need-loop-again Inv-loop μ-loop
-loop-again c = (next-le (turn (c .before .before .before .before .before)), put-turn _ _ _ _ _ _ (c .before .before .before .before .before .before .loop .inv .1) zero-le (let s = c .before .before .before .before .before .before .before .before in four-is (s .args .a) (s .args .b) (getD (s .args .partitions .now) (c .before .before .before .before .before .before .loop .i) 0) (getD (s .args .w .now) (s .args .x + c .before .before .before .before .before .before .loop .i) 0) (c .before .before .before .any .ensures) (c .before .before .any2 .ensures) (c .hdr-channel .ensures)))
+loop-again c =
+    let after-any2 = c .before .before in
+    let after-any = after-any2 .before in
+    let in-loop = after-any .before .before in
+    let at-loop = in-loop .before in
+    let at-start = at-loop .before .before in
+    (next-le (turn in-loop), put-turn _ _ _ _ _ _ (at-loop .loop .inv .1) zero-le (four-is (at-start .args .a) (at-start .args .b) (getD (at-start .args .partitions .now) (at-loop .loop .i) 0) (getD (at-start .args .w .now) (at-start .args .x + at-loop .loop .i) 0) (after-any .any .ensures) (after-any2 .any2 .ensures) (c .hdr-channel .ensures)))
 
 returns : tie.Need-returns Inv-loop μ-loop
 returns c = put-end _ _ _ _ _ _ (c .before .loop .inv .1) (c .before .loop .inv .0) (omega arith)

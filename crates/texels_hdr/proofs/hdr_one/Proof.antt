@@ -29,7 +29,10 @@ element-copy-out-hdr-channel : tie.Need-element-copy-out-hdr-channel Inv-loop μ
 element-copy-out-hdr-channel c = omega arith
 
 hdr-channel-requires : tie.Need-hdr-channel-requires Inv-loop μ-loop
-hdr-channel-requires c κs = let s = c .before .before .before .before in (s .pre .0 .2, s .pre .0 .3, s .pre .1 (s .args .x + c .before .before .loop .i))
+hdr-channel-requires c κs =
+    let at-loop = c .before .before in
+    let at-start = at-loop .before .before in
+    (at-start .pre .0 .2, at-start .pre .0 .3, at-start .pre .1 (at-start .args .x + at-loop .loop .i))
 
 element-write-out : tie.Need-element-write-out Inv-loop μ-loop
 element-write-out c = omega arith
@@ -41,7 +44,9 @@ loop-less : tie.Need-loop-less Inv-loop μ-loop
 loop-less c = omega arith
 
 loop-again : tie.Need-loop-again Inv-loop μ-loop
-loop-again c = (omega arith, put-turn _ _ _ _ _ _ (c .before .before .before .loop .inv .1) zero-le (c .hdr-channel .ensures))
+loop-again c =
+    let at-loop = c .before .before .before in
+    (omega arith, put-turn _ _ _ _ _ _ (at-loop .loop .inv .1) zero-le (c .hdr-channel .ensures))
 
 returns : tie.Need-returns Inv-loop μ-loop
 returns c = put-end _ _ _ _ _ _ (c .before .loop .inv .1) (omega arith) (omega arith)

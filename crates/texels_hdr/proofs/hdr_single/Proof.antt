@@ -8,7 +8,10 @@ hdr-flat-requires : tie.Need-hdr-flat-requires
 hdr-flat-requires c κs = search needs
 
 returns : tie.Need-returns
-returns c = let s = c .before .before .before in hdr-flat-is (s .args .n) (s .args .x) (s .args .v0) (s .args .v1) (s .args .w .now) _ _ (s .pre .1) (c .before .before .if1 .taken) (c .hdr-flat .ensures)
+returns c =
+    let at-if1 = c .before .before in
+    let at-start = at-if1 .before in
+    hdr-flat-is (at-start .args .n) (at-start .args .x) (at-start .args .v0) (at-start .args .v1) (at-start .args .w .now) _ _ (at-start .pre .1) (at-if1 .if1 .taken) (c .hdr-flat .ensures)
 
 hdr-one-requires : tie.Need-hdr-one-requires
 hdr-one-requires c κs = search needs

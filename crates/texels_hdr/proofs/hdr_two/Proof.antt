@@ -25,7 +25,9 @@ turn : (c : tie.In-loop Inv-loop μ-loop) → c .before .loop .i < eights (c .be
 turn c = omega arith
 
 within : (c : tie.In-loop Inv-loop μ-loop) → c .before .loop .i < mostTexels
-within c = inside (c .before .before .before .args .n) (turn c) (c .before .before .before .pre .0 .0)
+within c =
+    let at-start = c .before .before .before in
+    inside (at-start .args .n) (turn c) (at-start .pre .0 .0)
 
 eights-requires : tie.Need-eights-requires Inv-loop μ-loop
 eights-requires c κs = omega arith
@@ -43,36 +45,55 @@ either-requires-2 : tie.Need-either-requires-2 Inv-loop μ-loop
 either-requires-2 c κs = omega arith
 
 add-hdr-channel : tie.Need-add-hdr-channel Inv-loop μ-loop
-add-hdr-channel c = weight-fits (within (c .before .before .before)) (c .before .before .before .before .before .before .pre .0 .1)
+add-hdr-channel c =
+    let in-loop = c .before .before .before in
+    let at-start = in-loop .before .before .before in
+    weight-fits (within in-loop) (at-start .pre .0 .1)
 
 element-copy-out-hdr-channel : tie.Need-element-copy-out-hdr-channel Inv-loop μ-loop
-element-copy-out-hdr-channel c = weight-in (within (c .before .before .before)) (c .before .before .before .before .before .before .pre .0 .1)
+element-copy-out-hdr-channel c =
+    let in-loop = c .before .before .before in
+    let at-start = in-loop .before .before .before in
+    weight-in (within in-loop) (at-start .pre .0 .1)
 
 hdr-channel-requires : tie.Need-hdr-channel-requires Inv-loop μ-loop
 hdr-channel-requires c κs =
-    let s = c .before .before .before .before .before .before .before in
-    let i = c .before .before .before .before .before .loop .i in
-    let p = getD (s .args .partitions .now) i 0 in
-    let h = s .pre .1 .1 i in
-    (two-wide (s .args .a) p (s .pre .0 .2) h (c .before .before .either .ensures), two-wide (s .args .b) p (s .pre .0 .3) h (c .before .either2 .ensures), s .pre .1 .0 (s .args .x + i))
+    let after-either = c .before .before in
+    let at-loop = after-either .before .before .before in
+    let at-start = at-loop .before .before in
+    let i = at-loop .loop .i in
+    let p = getD (at-start .args .partitions .now) i 0 in
+    let h = at-start .pre .1 .1 i in
+    (two-wide (at-start .args .a) p (at-start .pre .0 .2) h (after-either .either .ensures), two-wide (at-start .args .b) p (at-start .pre .0 .3) h (c .before .either2 .ensures), at-start .pre .1 .0 (at-start .args .x + i))
 
 element-write-out : tie.Need-element-write-out Inv-loop μ-loop
-element-write-out c = within (c .before .before .before .before .before)
+element-write-out c =
+    let in-loop = c .before .before .before .before .before in
+    within in-loop
 
 add-i : tie.Need-add-i Inv-loop μ-loop
-add-i c = next-fits (within (c .before .before .before .before .before))
+add-i c =
+    let in-loop = c .before .before .before .before .before in
+    next-fits (within in-loop)
 
 loop-less : tie.Need-loop-less Inv-loop μ-loop
-loop-less c = less-left (turn (c .before .before .before .before .before))
+loop-less c =
+    let in-loop = c .before .before .before .before .before in
+    less-left (turn in-loop)
 
 loop-again : tie.Need-loop-again Inv-loop μ-loop
-loop-again c = (next-le (turn (c .before .before .before .before .before)), put-turn _ _ _ _ _ _ (c .before .before .before .before .before .before .loop .inv .1) zero-le (c .hdr-channel .ensures ∙ rw (c .before .before .before .either .ensures, c .before .before .either2 .ensures)))
+loop-again c =
+    let after-either2 = c .before .before in
+    let after-either = after-either2 .before in
+    let in-loop = after-either .before .before in
+    let at-loop = in-loop .before in
+    (next-le (turn in-loop), put-turn _ _ _ _ _ _ (at-loop .loop .inv .1) zero-le (c .hdr-channel .ensures ∙ rw (after-either .either .ensures, after-either2 .either2 .ensures)))
 
 returns : tie.Need-returns Inv-loop μ-loop
 returns c =
-    let s = c .before .before .before in
-    put-end _ _ _ (eights (s .args .n)) _ _ (c .before .loop .inv .1) (c .before .loop .inv .0) (omega arith)
-    ∙ put-same _ _ 0 (eights (s .args .n)) _ (λ i l h. rw (either-pick (s .args .a) (getD (s .args .partitions .now) i 0) (s .pre .1 .1 i), either-pick (s .args .b) (getD (s .args .partitions .now) i 0) (s .pre .1 .1 i)))
+    let at-start = c .before .before .before in
+    put-end _ _ _ (eights (at-start .args .n)) _ _ (c .before .loop .inv .1) (c .before .loop .inv .0) (omega arith)
+    ∙ put-same _ _ 0 (eights (at-start .args .n)) _ (λ i l h. rw (either-pick (at-start .args .a) (getD (at-start .args .partitions .now) i 0) (at-start .pre .1 .1 i), either-pick (at-start .args .b) (getD (at-start .args .partitions .now) i 0) (at-start .pre .1 .1 i)))
 
 pub hdr-two-spec : {M : Type 1} → statement M
 hdr-two-spec =

@@ -23,7 +23,9 @@ turn : (c : tie.In-loop Inv-loop μ-loop) → c .before .loop .i < eights (c .be
 turn c = omega arith
 
 within : (c : tie.In-loop Inv-loop μ-loop) → c .before .loop .i < mostTexels
-within c = inside (c .before .before .before .args .n) (turn c) (c .before .before .before .pre)
+within c =
+    let at-start = c .before .before .before in
+    inside (at-start .args .n) (turn c) (at-start .pre)
 
 eights-requires : tie.Need-eights-requires Inv-loop μ-loop
 eights-requires c κs = omega arith
@@ -41,50 +43,76 @@ joined-requires : tie.Need-joined-requires Inv-loop μ-loop
 joined-requires c κs = omega arith
 
 mul-out : tie.Need-mul-out Inv-loop μ-loop
-mul-out c = low-fits (within (c .before .before .before))
+mul-out c =
+    let in-loop = c .before .before .before in
+    low-fits (within in-loop)
 
 mul-out-2 : tie.Need-mul-out-2 Inv-loop μ-loop
-mul-out-2 c = low-offset (within (c .before .before .before))
+mul-out-2 c =
+    let in-loop = c .before .before .before in
+    low-offset (within in-loop)
 
 element-write-out : tie.Need-element-write-out Inv-loop μ-loop
-element-write-out c = low-in (within (c .before .before .before))
+element-write-out c =
+    let in-loop = c .before .before .before in
+    low-in (within in-loop)
 
 element-copy-out-joined-3 : tie.Need-element-copy-out-joined-3 Inv-loop μ-loop
-element-copy-out-joined-3 c = within (c .before .before .before)
+element-copy-out-joined-3 c =
+    let in-loop = c .before .before .before in
+    within in-loop
 
 element-copy-out-joined-4 : tie.Need-element-copy-out-joined-4 Inv-loop μ-loop
-element-copy-out-joined-4 c = within (c .before .before .before .before)
+element-copy-out-joined-4 c =
+    let in-loop = c .before .before .before .before in
+    within in-loop
 
 joined-requires-2 : tie.Need-joined-requires-2 Inv-loop μ-loop
 joined-requires-2 c κs = omega arith
 
 mul-out-3 : tie.Need-mul-out-3 Inv-loop μ-loop
-mul-out-3 c = low-fits (within (c .before .before .before .before .before .before))
+mul-out-3 c =
+    let in-loop = c .before .before .before .before .before .before in
+    low-fits (within in-loop)
 
 add-out : tie.Need-add-out Inv-loop μ-loop
-add-out c = high-fits (within (c .before .before .before .before .before .before))
+add-out c =
+    let in-loop = c .before .before .before .before .before .before in
+    high-fits (within in-loop)
 
 mul-out-4 : tie.Need-mul-out-4 Inv-loop μ-loop
-mul-out-4 c = high-offset (within (c .before .before .before .before .before .before))
+mul-out-4 c =
+    let in-loop = c .before .before .before .before .before .before in
+    high-offset (within in-loop)
 
 element-write-out-2 : tie.Need-element-write-out-2 Inv-loop μ-loop
-element-write-out-2 c = high-in (within (c .before .before .before .before .before .before))
+element-write-out-2 c =
+    let in-loop = c .before .before .before .before .before .before in
+    high-in (within in-loop)
 
 add-i : tie.Need-add-i Inv-loop μ-loop
-add-i c = next-fits (within (c .before .before .before .before .before .before))
+add-i c =
+    let in-loop = c .before .before .before .before .before .before in
+    next-fits (within in-loop)
 
 loop-less : tie.Need-loop-less Inv-loop μ-loop
-loop-less c = less-left (turn (c .before .before .before .before .before .before))
+loop-less c =
+    let in-loop = c .before .before .before .before .before .before in
+    less-left (turn in-loop)
 
 loop-again : tie.Need-loop-again Inv-loop μ-loop
 loop-again c =
-    let low = c .before .before .before .joined .ensures in
+    let after-joined = c .before .before .before in
+    let in-loop = after-joined .before .before .before in
+    let at-loop = in-loop .before in
+    let low = after-joined .joined .ensures in
     let high = c .joined2 .ensures in
-    (next-le (turn (c .before .before .before .before .before .before)), byte-stores _ _ _ _ _ _ _ _ _ _ (c .before .before .before .before .before .before .before .loop .inv .1) refl (omega arith) (omega arith) (low .0) (high .0))
+    (next-le (turn in-loop), byte-stores _ _ _ _ _ _ _ _ _ _ (at-loop .loop .inv .1) refl (omega arith) (omega arith) (low .0) (high .0))
 
 returns : tie.Need-returns Inv-loop μ-loop
 returns c =
-    let e : c .before .loop .i ≡ eights (c .before .before .before .args .n) = omega arith in
+    let at-start = c .before .before .before in
+    let e : c .before .loop .i ≡ eights (at-start .args .n) = omega arith in
     rw e at (c .before .loop .inv .1)
 
 pub join-all-spec : {M : Type 1} → statement M

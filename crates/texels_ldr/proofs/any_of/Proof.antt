@@ -32,15 +32,22 @@ any-requires-8 c κs = search needs
 
 returns : tie.Need-returns
 returns c =
-    let a = c .before .before .before .before .before .before .before .before .args in
-    let h = c .before .before .before .before .before .before .before .before .pre .0 in
-    numbers-of _ (c .before .before .before .before .before .before .before .before .pre .1)
-    (any-field (λ (e : Endpoints). e .r0) (a .p) (a .a) (a .b) (a .c) (a .d) h (c .before .before .before .before .before .before .before .any .ensures))
-    (any-field (λ (e : Endpoints). e .g0) (a .p) (a .a) (a .b) (a .c) (a .d) h (c .before .before .before .before .before .before .any2 .ensures))
-    (any-field (λ (e : Endpoints). e .b0) (a .p) (a .a) (a .b) (a .c) (a .d) h (c .before .before .before .before .before .any3 .ensures))
-    (any-field (λ (e : Endpoints). e .a0) (a .p) (a .a) (a .b) (a .c) (a .d) h (c .before .before .before .before .any4 .ensures))
-    (any-field (λ (e : Endpoints). e .r1) (a .p) (a .a) (a .b) (a .c) (a .d) h (c .before .before .before .any5 .ensures))
-    (any-field (λ (e : Endpoints). e .g1) (a .p) (a .a) (a .b) (a .c) (a .d) h (c .before .before .any6 .ensures))
+    let after-any6 = c .before .before in
+    let after-any5 = after-any6 .before in
+    let after-any4 = after-any5 .before in
+    let after-any3 = after-any4 .before in
+    let after-any2 = after-any3 .before in
+    let after-any = after-any2 .before in
+    let at-start = after-any .before in
+    let a = at-start .args in
+    let h = at-start .pre .0 in
+    numbers-of _ (at-start .pre .1)
+    (any-field (λ (e : Endpoints). e .r0) (a .p) (a .a) (a .b) (a .c) (a .d) h (after-any .any .ensures))
+    (any-field (λ (e : Endpoints). e .g0) (a .p) (a .a) (a .b) (a .c) (a .d) h (after-any2 .any2 .ensures))
+    (any-field (λ (e : Endpoints). e .b0) (a .p) (a .a) (a .b) (a .c) (a .d) h (after-any3 .any3 .ensures))
+    (any-field (λ (e : Endpoints). e .a0) (a .p) (a .a) (a .b) (a .c) (a .d) h (after-any4 .any4 .ensures))
+    (any-field (λ (e : Endpoints). e .r1) (a .p) (a .a) (a .b) (a .c) (a .d) h (after-any5 .any5 .ensures))
+    (any-field (λ (e : Endpoints). e .g1) (a .p) (a .a) (a .b) (a .c) (a .d) h (after-any6 .any6 .ensures))
     (any-field (λ (e : Endpoints). e .b1) (a .p) (a .a) (a .b) (a .c) (a .d) h (c .before .any7 .ensures))
     (any-field (λ (e : Endpoints). e .a1) (a .p) (a .a) (a .b) (a .c) (a .d) h (c .any8 .ensures))
 

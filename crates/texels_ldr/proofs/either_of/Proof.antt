@@ -32,14 +32,21 @@ either-requires-8 c κs = search needs
 
 returns : tie.Need-returns
 returns c =
-    let a = c .before .before .before .before .before .before .before .before .args in
-    numbers-of _ (c .before .before .before .before .before .before .before .before .pre)
-    (either-field (λ (e : Endpoints). e .r0) (a .p) (a .a) (a .b) (c .before .before .before .before .before .before .before .either .ensures))
-    (either-field (λ (e : Endpoints). e .g0) (a .p) (a .a) (a .b) (c .before .before .before .before .before .before .either2 .ensures))
-    (either-field (λ (e : Endpoints). e .b0) (a .p) (a .a) (a .b) (c .before .before .before .before .before .either3 .ensures))
-    (either-field (λ (e : Endpoints). e .a0) (a .p) (a .a) (a .b) (c .before .before .before .before .either4 .ensures))
-    (either-field (λ (e : Endpoints). e .r1) (a .p) (a .a) (a .b) (c .before .before .before .either5 .ensures))
-    (either-field (λ (e : Endpoints). e .g1) (a .p) (a .a) (a .b) (c .before .before .either6 .ensures))
+    let after-either6 = c .before .before in
+    let after-either5 = after-either6 .before in
+    let after-either4 = after-either5 .before in
+    let after-either3 = after-either4 .before in
+    let after-either2 = after-either3 .before in
+    let after-either = after-either2 .before in
+    let at-start = after-either .before in
+    let a = at-start .args in
+    numbers-of _ (at-start .pre)
+    (either-field (λ (e : Endpoints). e .r0) (a .p) (a .a) (a .b) (after-either .either .ensures))
+    (either-field (λ (e : Endpoints). e .g0) (a .p) (a .a) (a .b) (after-either2 .either2 .ensures))
+    (either-field (λ (e : Endpoints). e .b0) (a .p) (a .a) (a .b) (after-either3 .either3 .ensures))
+    (either-field (λ (e : Endpoints). e .a0) (a .p) (a .a) (a .b) (after-either4 .either4 .ensures))
+    (either-field (λ (e : Endpoints). e .r1) (a .p) (a .a) (a .b) (after-either5 .either5 .ensures))
+    (either-field (λ (e : Endpoints). e .g1) (a .p) (a .a) (a .b) (after-either6 .either6 .ensures))
     (either-field (λ (e : Endpoints). e .b1) (a .p) (a .a) (a .b) (c .before .either7 .ensures))
     (either-field (λ (e : Endpoints). e .a1) (a .p) (a .a) (a .b) (c .either8 .ensures))
 

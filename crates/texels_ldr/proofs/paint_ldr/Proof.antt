@@ -11,7 +11,9 @@ array-copy-out-paint-one : tie.Need-array-copy-out-paint-one
 array-copy-out-paint-one c = search needs
 
 paint-one-requires : tie.Need-paint-one-requires
-paint-one-requires c κs = let s = c .before .before .before .before in ((s .pre .0 .few, plain-at _ _ _ 0 _ _ _ (s .pre .0) (s .pre .1) 0 (omega arith)), s .pre .0 .light)
+paint-one-requires c κs =
+    let at-start = c .before .before .before .before in
+    ((at-start .pre .0 .few, plain-at _ _ _ 0 _ _ _ (at-start .pre .0) (at-start .pre .1) 0 (omega arith)), at-start .pre .0 .light)
 
 returns : tie.Need-returns
 returns c = search as-one
@@ -23,7 +25,9 @@ array-copy-out-paint-planes : tie.Need-array-copy-out-paint-planes
 array-copy-out-paint-planes c = search needs
 
 paint-planes-requires : tie.Need-paint-planes-requires
-paint-planes-requires c κs = let s = c .before .before .before .before .before in ((s .pre .0 .few, c .before .starts-of .ensures .1, plain-at _ _ _ 0 _ _ _ (s .pre .0) (s .pre .1) 0 (omega arith)), s .pre .0 .light)
+paint-planes-requires c κs =
+    let at-start = c .before .before .before .before .before in
+    ((at-start .pre .0 .few, c .before .starts-of .ensures .1, plain-at _ _ _ 0 _ _ _ (at-start .pre .0) (at-start .pre .1) 0 (omega arith)), at-start .pre .0 .light)
 
 returns-2 : tie.Need-returns-2
 returns-2 c = search as-planes
@@ -35,7 +39,9 @@ array-copy-out-paint-two-2 : tie.Need-array-copy-out-paint-two-2
 array-copy-out-paint-two-2 c = search needs
 
 paint-two-requires : tie.Need-paint-two-requires
-paint-two-requires c κs = let s = c .before .before .before .before .before .before in ((s .pre .0 .few, plain-at _ _ _ 0 _ _ _ (s .pre .0) (s .pre .1) 0 (omega arith), plain-at _ _ _ 0 _ _ _ (s .pre .0) (s .pre .1) 1 (omega arith)), s .pre .0 .light)
+paint-two-requires c κs =
+    let at-start = c .before .before .before .before .before .before in
+    ((at-start .pre .0 .few, plain-at _ _ _ 0 _ _ _ (at-start .pre .0) (at-start .pre .1) 0 (omega arith), plain-at _ _ _ 0 _ _ _ (at-start .pre .0) (at-start .pre .1) 1 (omega arith)), at-start .pre .0 .light)
 
 returns-3 : tie.Need-returns-3
 returns-3 c = search as-two
@@ -45,9 +51,9 @@ starts-of-requires-2 c κs = search needs
 
 paint-four-requires : tie.Need-paint-four-requires
 paint-four-requires c κs =
-    let s = c .before .before .before .before in (
-      (s .pre .0 .few, c .starts-of2 .ensures .1),
-      (s .pre .0 .light, ((λ (i : ℕ). omega (arith, s .pre .0 .mapped i)), (λ (i : ℕ). plain-at _ _ _ 0 _ _ _ (s .pre .0) (s .pre .1) _ (s .pre .0 .mapped i)))),
+    let at-start = c .before .before .before .before in (
+      (at-start .pre .0 .few, c .starts-of2 .ensures .1),
+      (at-start .pre .0 .light, ((λ (i : ℕ). omega (arith, at-start .pre .0 .mapped i)), (λ (i : ℕ). plain-at _ _ _ 0 _ _ _ (at-start .pre .0) (at-start .pre .1) _ (at-start .pre .0 .mapped i)))),
     )
 
 returns-4 : tie.Need-returns-4

@@ -23,7 +23,9 @@ turn : (c : tie.In-loop Inv-loop μ-loop) → c .before .loop .i < eights (c .be
 turn c = omega arith
 
 within : (c : tie.In-loop Inv-loop μ-loop) → c .before .loop .i < mostTexels
-within c = inside (c .before .before .before .args .n) (turn c) (c .before .before .before .pre .0 .0)
+within c =
+    let at-start = c .before .before .before in
+    inside (at-start .args .n) (turn c) (at-start .pre .0 .0)
 
 eights-requires : tie.Need-eights-requires Inv-loop μ-loop
 eights-requires c κs = omega arith
@@ -32,11 +34,14 @@ loop-holds : tie.Need-loop-holds Inv-loop μ-loop
 loop-holds c = (zero-le, put-none _ 0 _)
 
 weights-at-requires : tie.Need-weights-at-requires Inv-loop μ-loop
-weights-at-requires c κs = let s = c .before .before .before in ((s .pre .0 .1, within c), s .pre .1)
+weights-at-requires c κs =
+    let at-start = c .before .before .before in
+    ((at-start .pre .0 .1, within c), at-start .pre .1)
 
 pair-requires : tie.Need-pair-requires Inv-loop μ-loop
 pair-requires c κs =
-    let h = c .before .before .before .before .pre .0 .2 in
+    let at-start = c .before .before .before .before in
+    let h = at-start .pre .0 .2 in
     let l = c .weights-at .ensures .light in
     (h .b0, h .b1, h .g0, h .g1, l .2, l .1)
 
@@ -51,37 +56,54 @@ element-write-out c = low-in (within (c .before .before))
 
 pair-requires-2 : tie.Need-pair-requires-2 Inv-loop μ-loop
 pair-requires-2 c κs =
-    let h = c .before .before .before .before .before .pre .0 .2 in
+    let at-start = c .before .before .before .before .before in
+    let h = at-start .pre .0 .2 in
     let l = c .before .weights-at .ensures .light in
     (h .r0, h .r1, h .a0, h .a1, l .0, l .3)
 
 mul-out-3 : tie.Need-mul-out-3 Inv-loop μ-loop
-mul-out-3 c = low-fits (within (c .before .before .before))
+mul-out-3 c =
+    let in-loop = c .before .before .before in
+    low-fits (within in-loop)
 
 add-out : tie.Need-add-out Inv-loop μ-loop
-add-out c = high-fits (within (c .before .before .before))
+add-out c =
+    let in-loop = c .before .before .before in
+    high-fits (within in-loop)
 
 mul-out-4 : tie.Need-mul-out-4 Inv-loop μ-loop
-mul-out-4 c = high-offset (within (c .before .before .before))
+mul-out-4 c =
+    let in-loop = c .before .before .before in
+    high-offset (within in-loop)
 
 element-write-out-2 : tie.Need-element-write-out-2 Inv-loop μ-loop
-element-write-out-2 c = high-in (within (c .before .before .before))
+element-write-out-2 c =
+    let in-loop = c .before .before .before in
+    high-in (within in-loop)
 
 add-i : tie.Need-add-i Inv-loop μ-loop
-add-i c = next-fits (within (c .before .before .before))
+add-i c =
+    let in-loop = c .before .before .before in
+    next-fits (within in-loop)
 
 loop-less : tie.Need-loop-less Inv-loop μ-loop
-loop-less c = less-left (turn (c .before .before .before))
+loop-less c =
+    let in-loop = c .before .before .before in
+    less-left (turn in-loop)
 
 loop-again : tie.Need-loop-again Inv-loop μ-loop
 loop-again c =
-    let s = c .before .before .before .before .before .before in
-    let v = c .before .before .weights-at .ensures in
-    (next-le (turn (c .before .before .before)), ldr-stores _ (s .args .e) (s .args .e) _ _ _ (s .pre .0 .2) (c .before .before .before .before .loop .inv .1) refl refl (v .r) (v .g) (v .b) (v .a) (c .before .pair .ensures) (c .pair2 .ensures))
+    let after-weights-at = c .before .before in
+    let in-loop = after-weights-at .before in
+    let at-loop = in-loop .before in
+    let at-start = at-loop .before .before in
+    let v = after-weights-at .weights-at .ensures in
+    (next-le (turn in-loop), ldr-stores _ (at-start .args .e) (at-start .args .e) _ _ _ (at-start .pre .0 .2) (at-loop .loop .inv .1) refl refl (v .r) (v .g) (v .b) (v .a) (c .before .pair .ensures) (c .pair2 .ensures))
 
 returns : tie.Need-returns Inv-loop μ-loop
 returns c =
-    let e : c .before .loop .i ≡ eights (c .before .before .before .args .n) = omega arith in
+    let at-start = c .before .before .before in
+    let e : c .before .loop .i ≡ eights (at-start .args .n) = omega arith in
     rw e at (c .before .loop .inv .1)
 
 pub paint-planes-spec : {M : Type 1} → statement M

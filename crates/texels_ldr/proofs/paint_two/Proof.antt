@@ -23,15 +23,18 @@ abbrev μ-loop : tie.MeasureT-loop
 -- the endpoints picked
 plain : (c : tie.After-either-of Inv-loop μ-loop) → Plain (c .either-of .result)
 plain c =
-    let s = c .before .before .before .before .before .before .before in
-    rw (c .either-of .ensures) (plain-either (getD (s .args .partitions .now) (c .before .before .before .before .before .loop .i) 0) (s .args .e) (s .args .f) (s .pre .0 .1) (s .pre .0 .2))
+    let at-loop = c .before .before .before .before .before in
+    let at-start = at-loop .before .before in
+    rw (c .either-of .ensures) (plain-either (getD (at-start .args .partitions .now) (at-loop .loop .i) 0) (at-start .args .e) (at-start .args .f) (at-start .pre .0 .1) (at-start .pre .0 .2))
 
 -- the turn's texel
 turn : (c : tie.In-loop Inv-loop μ-loop) → c .before .loop .i < eights (c .before .before .before .args .n)
 turn c = omega arith
 
 within : (c : tie.In-loop Inv-loop μ-loop) → c .before .loop .i < mostTexels
-within c = inside (c .before .before .before .args .n) (turn c) (c .before .before .before .pre .0 .0)
+within c =
+    let at-start = c .before .before .before in
+    inside (at-start .args .n) (turn c) (at-start .pre .0 .0)
 
 eights-requires : tie.Need-eights-requires Inv-loop μ-loop
 eights-requires c κs = omega arith
@@ -50,55 +53,83 @@ element-copy-out-either-of c = within (c .before .before)
 
 either-of-requires : tie.Need-either-of-requires Inv-loop μ-loop
 either-of-requires c κs =
-    let s = c .before .before .before .before .before .before in
-    plain-either (getD (s .args .partitions .now) (c .before .before .before .before .loop .i) 0) (s .args .e) (s .args .f) (s .pre .0 .1) (s .pre .0 .2)
+    let at-loop = c .before .before .before .before in
+    let at-start = at-loop .before .before in
+    plain-either (getD (at-start .args .partitions .now) (at-loop .loop .i) 0) (at-start .args .e) (at-start .args .f) (at-start .pre .0 .1) (at-start .pre .0 .2)
 
 pair-requires : tie.Need-pair-requires Inv-loop μ-loop
 pair-requires c κs =
+    let at-loop = c .before .before .before .before .before in
+    let at-start = at-loop .before .before in
     let h = plain c in
-    omega (arith, h .b0, h .b1, h .g0, h .g1, c .before .before .before .before .before .before .before .pre .1 (c .before .before .before .before .before .loop .i))
+    omega (arith, h .b0, h .b1, h .g0, h .g1, at-start .pre .1 (at-loop .loop .i))
 
 mul-out : tie.Need-mul-out Inv-loop μ-loop
-mul-out c = low-fits (within (c .before .before .before .before .before))
+mul-out c =
+    let in-loop = c .before .before .before .before .before in
+    low-fits (within in-loop)
 
 mul-out-2 : tie.Need-mul-out-2 Inv-loop μ-loop
-mul-out-2 c = low-offset (within (c .before .before .before .before .before))
+mul-out-2 c =
+    let in-loop = c .before .before .before .before .before in
+    low-offset (within in-loop)
 
 element-write-out : tie.Need-element-write-out Inv-loop μ-loop
-element-write-out c = low-in (within (c .before .before .before .before .before))
+element-write-out c =
+    let in-loop = c .before .before .before .before .before in
+    low-in (within in-loop)
 
 pair-requires-2 : tie.Need-pair-requires-2 Inv-loop μ-loop
 pair-requires-2 c κs =
+    let at-loop = c .before .before .before .before .before .before in
+    let at-start = at-loop .before .before in
     let h = plain (c .before) in
-    omega (arith, h .r0, h .r1, h .a0, h .a1, c .before .before .before .before .before .before .before .before .pre .1 (c .before .before .before .before .before .before .loop .i))
+    omega (arith, h .r0, h .r1, h .a0, h .a1, at-start .pre .1 (at-loop .loop .i))
 
 mul-out-3 : tie.Need-mul-out-3 Inv-loop μ-loop
-mul-out-3 c = low-fits (within (c .before .before .before .before .before .before))
+mul-out-3 c =
+    let in-loop = c .before .before .before .before .before .before in
+    low-fits (within in-loop)
 
 add-out : tie.Need-add-out Inv-loop μ-loop
-add-out c = high-fits (within (c .before .before .before .before .before .before))
+add-out c =
+    let in-loop = c .before .before .before .before .before .before in
+    high-fits (within in-loop)
 
 mul-out-4 : tie.Need-mul-out-4 Inv-loop μ-loop
-mul-out-4 c = high-offset (within (c .before .before .before .before .before .before))
+mul-out-4 c =
+    let in-loop = c .before .before .before .before .before .before in
+    high-offset (within in-loop)
 
 element-write-out-2 : tie.Need-element-write-out-2 Inv-loop μ-loop
-element-write-out-2 c = high-in (within (c .before .before .before .before .before .before))
+element-write-out-2 c =
+    let in-loop = c .before .before .before .before .before .before in
+    high-in (within in-loop)
 
 add-i : tie.Need-add-i Inv-loop μ-loop
-add-i c = next-fits (within (c .before .before .before .before .before .before))
+add-i c =
+    let in-loop = c .before .before .before .before .before .before in
+    next-fits (within in-loop)
 
 loop-less : tie.Need-loop-less Inv-loop μ-loop
-loop-less c = less-left (turn (c .before .before .before .before .before .before))
+loop-less c =
+    let in-loop = c .before .before .before .before .before .before in
+    less-left (turn in-loop)
 
 loop-again : tie.Need-loop-again Inv-loop μ-loop
 loop-again c =
-    let s = c .before .before .before .before .before .before .before .before .before in
-    let e = c .before .before .before .before .u16-of .ensures .0 in
-    (next-le (turn (c .before .before .before .before .before .before)), ldr-stores _ (c .before .before .either-of .result) (eitherOf (getD (s .args .partitions .now) (c .before .before .before .before .before .before .before .loop .i) 0) (s .args .e) (s .args .f)) _ _ _ (plain-either (getD (s .args .partitions .now) (c .before .before .before .before .before .before .before .loop .i) 0) (s .args .e) (s .args .f) (s .pre .0 .1) (s .pre .0 .2)) (c .before .before .before .before .before .before .before .loop .inv .1) refl (c .before .before .either-of .ensures) e e e e (c .before .pair .ensures) (c .pair2 .ensures))
+    let after-either-of = c .before .before in
+    let after-u16-of = after-either-of .before .before in
+    let in-loop = after-u16-of .before .before in
+    let at-loop = in-loop .before in
+    let at-start = at-loop .before .before in
+    let e = after-u16-of .u16-of .ensures .0 in
+    (next-le (turn in-loop), ldr-stores _ (after-either-of .either-of .result) (eitherOf (getD (at-start .args .partitions .now) (at-loop .loop .i) 0) (at-start .args .e) (at-start .args .f)) _ _ _ (plain-either (getD (at-start .args .partitions .now) (at-loop .loop .i) 0) (at-start .args .e) (at-start .args .f) (at-start .pre .0 .1) (at-start .pre .0 .2)) (at-loop .loop .inv .1) refl (after-either-of .either-of .ensures) e e e e (c .before .pair .ensures) (c .pair2 .ensures))
 
 returns : tie.Need-returns Inv-loop μ-loop
 returns c =
-    let e : c .before .loop .i ≡ eights (c .before .before .before .args .n) = omega arith in
+    let at-start = c .before .before .before in
+    let e : c .before .loop .i ≡ eights (at-start .args .n) = omega arith in
     rw e at (c .before .loop .inv .1)
 
 pub paint-two-spec : {M : Type 1} → statement M

@@ -42,18 +42,21 @@ u16-of-requires-4 c κs = search needs
 
 returns : tie.Need-returns
 returns c =
-    let s = c .before .before .before .before .before .before .before .before .before .before .before .before in
-    let k = s .args .k in
-    let i = s .args .i in record {
-      r = c .before .before .before .before .before .before .before .before .before .u16-of .ensures .0;
-      g = c .before .before .before .before .before .before .u16-of2 .ensures .0;
-      b = c .before .before .before .u16-of3 .ensures .0;
+    let after-u16-of3 = c .before .before .before in
+    let after-u16-of2 = after-u16-of3 .before .before .before in
+    let after-u16-of = after-u16-of2 .before .before .before in
+    let at-start = after-u16-of .before .before .before in
+    let k = at-start .args .k in
+    let i = at-start .args .i in record {
+      r = after-u16-of .u16-of .ensures .0;
+      g = after-u16-of2 .u16-of2 .ensures .0;
+      b = after-u16-of3 .u16-of3 .ensures .0;
       a = c .u16-of4 .ensures .0;
       light = (
-        rw (c .before .before .before .before .before .before .before .before .before .u16-of .ensures .0) (s .pre .1 (k .r + i)),
-        rw (c .before .before .before .before .before .before .u16-of2 .ensures .0) (s .pre .1 (k .g + i)),
-        rw (c .before .before .before .u16-of3 .ensures .0) (s .pre .1 (k .b + i)),
-        rw (c .u16-of4 .ensures .0) (s .pre .1 (k .a + i)),
+        rw (after-u16-of .u16-of .ensures .0) (at-start .pre .1 (k .r + i)),
+        rw (after-u16-of2 .u16-of2 .ensures .0) (at-start .pre .1 (k .g + i)),
+        rw (after-u16-of3 .u16-of3 .ensures .0) (at-start .pre .1 (k .b + i)),
+        rw (c .u16-of4 .ensures .0) (at-start .pre .1 (k .a + i)),
       );
     }
 

@@ -20,8 +20,10 @@ loop-holds c = (zero-le, put-none _ 0 _)
 
 put-four-requires : tie.Need-put-four-requires Inv-loop μ-loop
 put-four-requires c κs =
-    let l = c .before .before .loop in
-    let e : length (l .out) ≡ length (c .before .before .before .before .args .out .now) = ap length (l .inv .1) ∙ length-put _ 0 _ _ in
+    let at-loop = c .before .before in
+    let at-start = at-loop .before .before in
+    let l = at-loop .loop in
+    let e : length (l .out) ≡ length (at-start .args .out .now) = ap length (l .inv .1) ∙ length-put _ 0 _ _ in
     (omega arith, omega (arith, e))
 
 add-i : tie.Need-add-i Inv-loop μ-loop
@@ -31,7 +33,10 @@ loop-less : tie.Need-loop-less Inv-loop μ-loop
 loop-less c = omega arith
 
 loop-again : tie.Need-loop-again Inv-loop μ-loop
-loop-again c = let l = c .before .before .before .before .before .loop in (omega arith, c .before .before .put-four .ensures ∙ four-stores _ (l .i) _ (l .out) _ (l .inv .1) refl)
+loop-again c =
+    let after-put-four = c .before .before in
+    let at-loop = after-put-four .before .before .before in
+    let l = at-loop .loop in (omega arith, after-put-four .put-four .ensures ∙ four-stores _ (l .i) _ (l .out) _ (l .inv .1) refl)
 
 same-length : tie.Need-same-length Inv-loop μ-loop
 same-length c = ap length (c .before .loop .inv .1) ∙ length-put _ _ _ _

@@ -23,8 +23,11 @@ same-length-2 c = search needs
 
 returns : tie.Need-returns
 returns c =
-    let filled = c .before .before .before .before .before .before .before in
-    (rw (filled .before .four-of .ensures) at (filled .fill-numbers .ensures), rw (c .before .before .before .marks-of .ensures) at (c .before .before .fill-marks .ensures))
+    let after-fill-marks = c .before .before in
+    let after-marks-of = after-fill-marks .before in
+    let after-fill-numbers = after-marks-of .before .before .before .before in
+    let after-four-of = after-fill-numbers .before in
+    (rw (after-four-of .four-of .ensures) at (after-fill-numbers .fill-numbers .ensures), rw (after-marks-of .marks-of .ensures) at (after-fill-marks .fill-marks .ensures))
 
 pub fill-texels-spec : {M : Type 1} → statement M
 fill-texels-spec =

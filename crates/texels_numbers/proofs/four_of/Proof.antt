@@ -16,7 +16,10 @@ number-of-requires-4 : tie.Need-number-of-requires-4
 number-of-requires-4 c κs = search needs
 
 returns : tie.Need-returns
-returns c = rw (c .before .before .before .number-of .ensures, c .before .before .number-of2 .ensures, c .before .number-of3 .ensures, c .number-of4 .ensures)
+returns c =
+    let after-number-of2 = c .before .before in
+    let after-number-of = after-number-of2 .before in
+    rw (after-number-of .number-of .ensures, after-number-of2 .number-of2 .ensures, c .before .number-of3 .ensures, c .number-of4 .ensures)
 
 pub four-of-spec : {M : Type 1} → statement M
 four-of-spec =

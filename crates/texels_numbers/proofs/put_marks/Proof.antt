@@ -27,8 +27,10 @@ marks-of-requires c κs = search needs
 
 slice-write-floats : tie.Need-slice-write-floats Inv-loop μ-loop
 slice-write-floats c =
-    let l = c .before .before .before .loop in
-    let e : length (l .floats) ≡ length (c .before .before .before .before .before .args .floats .now) = ap length (l .inv .1) ∙ length-put _ 0 _ _ in
+    let at-loop = c .before .before .before in
+    let at-start = at-loop .before .before in
+    let l = at-loop .loop in
+    let e : length (l .floats) ≡ length (at-start .args .floats .now) = ap length (l .inv .1) ∙ length-put _ 0 _ _ in
     omega (arith, e)
 
 add-i : tie.Need-add-i Inv-loop μ-loop
@@ -38,7 +40,9 @@ loop-less : tie.Need-loop-less Inv-loop μ-loop
 loop-less c = omega arith
 
 loop-again : tie.Need-loop-again Inv-loop μ-loop
-loop-again c = let l = c .before .before .before .loop in (omega arith, put-turn _ _ (l .i) _ _ (l .floats) (l .inv .1) zero-le (c .marks-of .ensures ∙ ap marksOf (c .before .samples-at .ensures)))
+loop-again c =
+    let at-loop = c .before .before .before in
+    let l = at-loop .loop in (omega arith, put-turn _ _ (l .i) _ _ (l .floats) (l .inv .1) zero-le (c .marks-of .ensures ∙ ap marksOf (c .before .samples-at .ensures)))
 
 same-length : tie.Need-same-length Inv-loop μ-loop
 same-length c = ap length (c .before .loop .inv .1) ∙ length-put _ _ _ _

@@ -36,8 +36,10 @@ number-of-requires-4 c κs = search needs
 
 put-four-requires : tie.Need-put-four-requires Inv-loop μ-loop
 put-four-requires c κs =
-    let l = c .before .before .before .before .before .before .before .loop in
-    let e : length (l .out) ≡ length (c .before .before .before .before .before .before .before .before .before .args .out .now) = ap length (l .inv .1) ∙ length-put _ 0 _ _ in
+    let at-loop = c .before .before .before .before .before .before .before in
+    let at-start = at-loop .before .before in
+    let l = at-loop .loop in
+    let e : length (l .out) ≡ length (at-start .args .out .now) = ap length (l .inv .1) ∙ length-put _ 0 _ _ in
     (omega arith, omega (arith, e))
 
 add-i : tie.Need-add-i Inv-loop μ-loop
@@ -48,10 +50,16 @@ loop-less c = omega arith
 
 loop-again : tie.Need-loop-again Inv-loop μ-loop
 loop-again c =
-    let last = c .before .before .before .before in
-    let l = last .before .before .before .before .before .before .loop in
-    let four = four-told _ _ (last .before .before .before .before .samples-at .ensures) (last .before .before .before .number-of .ensures) (last .before .before .number-of2 .ensures) (last .before .number-of3 .ensures) (last .number-of4 .ensures) in
-    (omega arith, c .before .before .put-four .ensures ∙ four-stores _ (l .i) _ (l .out) _ (l .inv .1) four)
+    let after-put-four = c .before .before in
+    let after-number-of4 = after-put-four .before .before in
+    let after-number-of3 = after-number-of4 .before in
+    let after-number-of2 = after-number-of3 .before in
+    let after-number-of = after-number-of2 .before in
+    let after-samples-at = after-number-of .before in
+    let at-loop = after-samples-at .before .before in
+    let l = at-loop .loop in
+    let four = four-told _ _ (after-samples-at .samples-at .ensures) (after-number-of .number-of .ensures) (after-number-of2 .number-of2 .ensures) (after-number-of3 .number-of3 .ensures) (after-number-of4 .number-of4 .ensures) in
+    (omega arith, after-put-four .put-four .ensures ∙ four-stores _ (l .i) _ (l .out) _ (l .inv .1) four)
 
 same-length : tie.Need-same-length Inv-loop μ-loop
 same-length c = ap length (c .before .loop .inv .1) ∙ length-put _ _ _ _

@@ -12,16 +12,20 @@ common-kind-requires c κs = search needs
 
 paint-ldr-requires : tie.Need-paint-ldr-requires
 paint-ldr-requires c κs =
+    let after-common-kind = c .before .before in
+    let at-start = after-common-kind .before in
     let e = c .before .if1 .taken in
-    (c .before .before .before .pre, λ p h. c .before .before .common-kind .ensures (omega arith) p h ∙ e)
+    (at-start .pre, λ p h. after-common-kind .common-kind .ensures (omega arith) p h ∙ e)
 
 returns : tie.Need-returns
 returns c = search needs
 
 paint-hdr-requires : tie.Need-paint-hdr-requires
 paint-hdr-requires c κs =
+    let after-common-kind = c .before .before .before in
+    let at-start = after-common-kind .before in
     let e = c .before .if2 .taken in
-    (c .before .before .before .before .pre, λ p h. c .before .before .before .common-kind .ensures (omega arith) p h ∙ e)
+    (at-start .pre, λ p h. after-common-kind .common-kind .ensures (omega arith) p h ∙ e)
 
 returns-2 : tie.Need-returns-2
 returns-2 c = search needs
@@ -30,7 +34,9 @@ starts-of-requires : tie.Need-starts-of-requires
 starts-of-requires c κs = search needs
 
 paint-any-requires : tie.Need-paint-any-requires
-paint-any-requires c κs = let p = c .before .before .before .before .before .pre in ((p .few, c .starts-of .ensures .1), (p .within, (p .light, λ (i : ℕ). omega (arith, p .mapped i))))
+paint-any-requires c κs =
+    let at-start = c .before .before .before .before .before in
+    let p = at-start .pre in ((p .few, c .starts-of .ensures .1), (p .within, (p .light, λ (i : ℕ). omega (arith, p .mapped i))))
 
 returns-3 : tie.Need-returns-3
 returns-3 c = search as-any

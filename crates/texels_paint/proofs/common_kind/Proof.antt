@@ -46,11 +46,14 @@ loop-less : tie.Need-loop-less Inv-loop μ-loop
 loop-less c = omega arith
 
 loop-again : tie.Need-loop-again Inv-loop μ-loop
-loop-again c = (omega arith, omega arith, below-more _ _ (c .before .before .before .before .loop .inv .2) (omega arith))
+loop-again c =
+    let at-loop = c .before .before .before .before in
+    (omega arith, omega arith, below-more _ _ (at-loop .loop .inv .2) (omega arith))
 
 returns-2 : tie.Need-returns-2 Inv-loop μ-loop
 returns-2 c =
-    let e : c .before .loop .p ≡ c .before .before .before .before .args .parts = omega arith in
+    let at-start = c .before .before .before .before in
+    let e : c .before .loop .p ≡ at-start .args .parts = omega arith in
     λ h. rw e at (c .before .loop .inv .2)
 
 pub common-kind-spec : {M : Type 1} → statement M

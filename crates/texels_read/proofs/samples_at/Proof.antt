@@ -56,7 +56,12 @@ sample-of-requires-4 : tie.Need-sample-of-requires-4
 sample-of-requires-4 c κs = search needs
 
 returns : tie.Need-returns
-returns c = let s = c .before .before .before .before .before .before .before .before in texel-is (s .args .lanes .now) (s .args .i) (c .before .before .before .before .before .before .sample-of .ensures) (c .before .before .before .before .sample-of2 .ensures) (c .before .before .sample-of3 .ensures) (c .sample-of4 .ensures)
+returns c =
+    let after-sample-of3 = c .before .before in
+    let after-sample-of2 = after-sample-of3 .before .before in
+    let after-sample-of = after-sample-of2 .before .before in
+    let at-start = after-sample-of .before .before in
+    texel-is (at-start .args .lanes .now) (at-start .args .i) (after-sample-of .sample-of .ensures) (after-sample-of2 .sample-of2 .ensures) (after-sample-of3 .sample-of3 .ensures) (c .sample-of4 .ensures)
 
 pub samples-at-spec : {M : Type 1} → statement M
 samples-at-spec =

@@ -28,7 +28,8 @@ returns-3 c = rw (c .before .if3 .taken, c .hdr-of3 .ensures)
 
 returns-4 : tie.Need-returns-4
 returns-4 c =
-    let k = c .before .before .before .before .args .k in
+    let at-start = c .before .before .before .before in
+    let k = at-start .args .k in
     let e : k ≡ 3 = omega arith in
     rw (e, c .hdr-of4 .ensures)
 

@@ -28,7 +28,11 @@ pair-of-requires-4 : tie.Need-pair-of-requires-4
 pair-of-requires-4 c κs = search needs
 
 returns : tie.Need-returns
-returns c = rw (c .before .before .before .before .before .before .pair-of .ensures, c .before .before .before .before .pair-of2 .ensures, c .before .before .pair-of3 .ensures, c .pair-of4 .ensures)
+returns c =
+    let after-pair-of3 = c .before .before in
+    let after-pair-of2 = after-pair-of3 .before .before in
+    let after-pair-of = after-pair-of2 .before .before in
+    rw (after-pair-of .pair-of .ensures, after-pair-of2 .pair-of2 .ensures, after-pair-of3 .pair-of3 .ensures, c .pair-of4 .ensures)
 
 pub pairs-of-spec : {M : Type 1} → statement M
 pairs-of-spec =

@@ -33,7 +33,9 @@ turn : (c : tie.In-loop Inv-loop μ-loop) → c .before .loop .i < eights (c .be
 turn c = omega arith
 
 within : (c : tie.In-loop Inv-loop μ-loop) → c .before .loop .i < mostTexels
-within c = inside (c .before .before .before .before .before .before .before .args .n) (turn c) (c .before .before .before .before .before .before .before .pre .0 .1)
+within c =
+    let at-start = c .before .before .before .before .before .before .before in
+    inside (at-start .args .n) (turn c) (at-start .pre .0 .1)
 
 eights-requires : tie.Need-eights-requires Inv-loop μ-loop
 eights-requires c κs = omega arith
@@ -45,48 +47,84 @@ element-copy-out-p : tie.Need-element-copy-out-p Inv-loop μ-loop
 element-copy-out-p c = within c
 
 any-requires : tie.Need-any-requires Inv-loop μ-loop
-any-requires c κs = c .before .before .before .before .before .before .before .before .pre .1 .1 (c .before .before .loop .i)
+any-requires c κs =
+    let at-loop = c .before .before in
+    let at-start = at-loop .before .before .before .before .before .before in
+    at-start .pre .1 .1 (at-loop .loop .i)
 
 any-requires-2 : tie.Need-any-requires-2 Inv-loop μ-loop
-any-requires-2 c κs = c .before .before .before .before .before .before .before .before .before .pre .1 .1 (c .before .before .before .loop .i)
+any-requires-2 c κs =
+    let at-loop = c .before .before .before in
+    let at-start = at-loop .before .before .before .before .before .before in
+    at-start .pre .1 .1 (at-loop .loop .i)
 
 any-requires-3 : tie.Need-any-requires-3 Inv-loop μ-loop
-any-requires-3 c κs = c .before .before .before .before .before .before .before .before .before .before .pre .1 .1 (c .before .before .before .before .loop .i)
+any-requires-3 c κs =
+    let at-loop = c .before .before .before .before in
+    let at-start = at-loop .before .before .before .before .before .before in
+    at-start .pre .1 .1 (at-loop .loop .i)
 
 add-sample : tie.Need-add-sample Inv-loop μ-loop
-add-sample c = weight-fits (within (c .before .before .before .before)) (c .before .before .before .before .before .before .before .before .before .before .before .pre .0 .2)
+add-sample c =
+    let in-loop = c .before .before .before .before in
+    let at-start = in-loop .before .before .before .before .before .before .before in
+    weight-fits (within in-loop) (at-start .pre .0 .2)
 
 element-copy-out-sample : tie.Need-element-copy-out-sample Inv-loop μ-loop
-element-copy-out-sample c = weight-in (within (c .before .before .before .before)) (c .before .before .before .before .before .before .before .before .before .before .before .pre .0 .2)
+element-copy-out-sample c =
+    let in-loop = c .before .before .before .before in
+    let at-start = in-loop .before .before .before .before .before .before .before in
+    weight-in (within in-loop) (at-start .pre .0 .2)
 
 sample-requires : tie.Need-sample-requires Inv-loop μ-loop
 sample-requires c κs =
-    let s = c .before .before .before .before .before .before .before .before .before .before .before .before in
-    let i = c .before .before .before .before .before .before .loop .i in
-    let l = any-limit (s .args .s) (getD (s .args .partitions .now) i 0) (s .pre .0 .3) (s .pre .1 .1 i) (c .before .before .before .any .ensures) (c .before .before .any2 .ensures) (c .before .any3 .ensures) in
-    (l .0, l .1, s .pre .1 .0 (s .args .x + i))
+    let after-any2 = c .before .before in
+    let after-any = after-any2 .before in
+    let at-loop = after-any .before .before .before in
+    let at-start = at-loop .before .before .before .before .before .before in
+    let i = at-loop .loop .i in
+    let l = any-limit (at-start .args .s) (getD (at-start .args .partitions .now) i 0) (at-start .pre .0 .3) (at-start .pre .1 .1 i) (after-any .any .ensures) (after-any2 .any2 .ensures) (c .before .any3 .ensures) in
+    (l .0, l .1, at-start .pre .1 .0 (at-start .args .x + i))
 
 add-out : tie.Need-add-out Inv-loop μ-loop
-add-out c = lane-fits (c .before .before .before .before .before .before .before .before .before .before .before .before .before .pre .0 .0) (within (c .before .before .before .before .before .before))
+add-out c =
+    let in-loop = c .before .before .before .before .before .before in
+    let at-start = in-loop .before .before .before .before .before .before .before in
+    lane-fits (at-start .pre .0 .0) (within in-loop)
 
 mul-out : tie.Need-mul-out Inv-loop μ-loop
-mul-out c = lane-offset (c .before .before .before .before .before .before .before .before .before .before .before .before .before .pre .0 .0) (within (c .before .before .before .before .before .before))
+mul-out c =
+    let in-loop = c .before .before .before .before .before .before in
+    let at-start = in-loop .before .before .before .before .before .before .before in
+    lane-offset (at-start .pre .0 .0) (within in-loop)
 
 element-write-out : tie.Need-element-write-out Inv-loop μ-loop
-element-write-out c = lane-in (c .before .before .before .before .before .before .before .before .before .before .before .before .before .pre .0 .0) (within (c .before .before .before .before .before .before))
+element-write-out c =
+    let in-loop = c .before .before .before .before .before .before in
+    let at-start = in-loop .before .before .before .before .before .before .before in
+    lane-in (at-start .pre .0 .0) (within in-loop)
 
 add-i : tie.Need-add-i Inv-loop μ-loop
-add-i c = next-fits (within (c .before .before .before .before .before .before))
+add-i c =
+    let in-loop = c .before .before .before .before .before .before in
+    next-fits (within in-loop)
 
 loop-less : tie.Need-loop-less Inv-loop μ-loop
-loop-less c = less-left (turn (c .before .before .before .before .before .before))
+loop-less c =
+    let in-loop = c .before .before .before .before .before .before in
+    less-left (turn in-loop)
 
 loop-again : tie.Need-loop-again Inv-loop μ-loop
 loop-again c =
-    let s = c .before .before .before .before .before .before .before .before .before .before .before .before .before in
-    let i = c .before .before .before .before .before .before .before .loop .i in (
-      next-le (turn (c .before .before .before .before .before .before)),
-      putAt-turn _ _ _ _ _ _ (c .before .before .before .before .before .before .before .loop .inv .1) (any-is (s .args .s) (getD (s .args .partitions .now) i 0) (getD (s .args .w .now) (s .args .x + i) 0) (c .before .before .before .before .any .ensures) (c .before .before .before .any2 .ensures) (c .before .before .any3 .ensures) (c .sample .ensures)),
+    let after-any3 = c .before .before in
+    let after-any2 = after-any3 .before in
+    let after-any = after-any2 .before in
+    let in-loop = after-any .before .before in
+    let at-loop = in-loop .before in
+    let at-start = at-loop .before .before .before .before .before .before in
+    let i = at-loop .loop .i in (
+      next-le (turn in-loop),
+      putAt-turn _ _ _ _ _ _ (at-loop .loop .inv .1) (any-is (at-start .args .s) (getD (at-start .args .partitions .now) i 0) (getD (at-start .args .w .now) (at-start .args .x + i) 0) (after-any .any .ensures) (after-any2 .any2 .ensures) (after-any3 .any3 .ensures) (c .sample .ensures)),
     )
 
 returns : tie.Need-returns Inv-loop μ-loop

@@ -28,7 +28,10 @@ element-copy-out-sample : tie.Need-element-copy-out-sample Inv-loop μ-loop
 element-copy-out-sample c = omega arith
 
 sample-requires : tie.Need-sample-requires Inv-loop μ-loop
-sample-requires c κs = let s = c .before .before .before .before in (s .pre .0 .3, s .pre .0 .4, s .pre .1 (s .args .x + c .before .before .loop .i))
+sample-requires c κs =
+    let at-loop = c .before .before in
+    let at-start = at-loop .before .before in
+    (at-start .pre .0 .3, at-start .pre .0 .4, at-start .pre .1 (at-start .args .x + at-loop .loop .i))
 
 add-out : tie.Need-add-out Inv-loop μ-loop
 add-out c = omega arith
@@ -46,7 +49,9 @@ loop-less : tie.Need-loop-less Inv-loop μ-loop
 loop-less c = omega arith
 
 loop-again : tie.Need-loop-again Inv-loop μ-loop
-loop-again c = (omega arith, putAt-turn _ _ _ _ _ _ (c .before .before .before .loop .inv .1) (c .sample .ensures))
+loop-again c =
+    let at-loop = c .before .before .before in
+    (omega arith, putAt-turn _ _ _ _ _ _ (at-loop .loop .inv .1) (c .sample .ensures))
 
 returns : tie.Need-returns Inv-loop μ-loop
 returns c = putAt-end _ _ _ _ _ _ (c .before .loop .inv .1) (omega arith) (omega arith)

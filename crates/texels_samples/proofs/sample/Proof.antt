@@ -28,9 +28,12 @@ u32-of-requires-3 c κs = search needs
 
 select-half-requires : tie.Need-select-half-requires
 select-half-requires c κs =
-    let s = c .before .before .before .before .before in
-    let n = c .before .before .before .before .if1 .left in
-    (rw (c .before .before .before .u32-of .ensures) (hdr-limit _ (s .args .v0) (s .args .v1) (s .args .w) n (s .pre .0)), (rw (c .before .before .u32-of2 .ensures) (hdr-limit _ (s .args .v0) (s .args .v1) (s .args .w) n (s .pre .1)), omega (arith, c .u32-of3 .ensures, c .before .u16-of2 .ensures .0, s .pre .2)))
+    let after-u32-of2 = c .before .before in
+    let after-u32-of = after-u32-of2 .before in
+    let at-if1 = after-u32-of .before in
+    let at-start = at-if1 .before in
+    let n = at-if1 .if1 .left in
+    (rw (after-u32-of .u32-of .ensures) (hdr-limit _ (at-start .args .v0) (at-start .args .v1) (at-start .args .w) n (at-start .pre .0)), (rw (after-u32-of2 .u32-of2 .ensures) (hdr-limit _ (at-start .args .v0) (at-start .args .v1) (at-start .args .w) n (at-start .pre .1)), omega (arith, c .u32-of3 .ensures, c .before .u16-of2 .ensures .0, at-start .pre .2)))
 
 add-result : tie.Need-add-result
 add-result c = search needs
@@ -40,9 +43,12 @@ returns c = ldr-is _ _ _ _ _ (c .before .before .if1 .taken) (rw (c .before .u16
 
 returns-2 : tie.Need-returns-2
 returns-2 c =
-    let called = c .before in
-    hdr-is _ _ _ _ _ (c .before .before .before .before .before .if1 .left)
-    (rw (called .before .before .before .u32-of .ensures, called .before .before .u32-of2 .ensures, called .u32-of3 .ensures, called .before .u16-of2 .ensures .0) at (c .select-half .ensures .0))
+    let after-u16-of2 = c .before .before in
+    let after-u32-of2 = after-u16-of2 .before in
+    let after-u32-of = after-u32-of2 .before in
+    let at-if1 = after-u32-of .before in
+    hdr-is _ _ _ _ _ (at-if1 .if1 .left)
+    (rw (after-u32-of .u32-of .ensures, after-u32-of2 .u32-of2 .ensures, c .before .u32-of3 .ensures, after-u16-of2 .u16-of2 .ensures .0) at (c .select-half .ensures .0))
 
 pub sample-spec : {M : Type 1} → statement M
 sample-spec =

@@ -18,18 +18,20 @@ unquantize-requires c κs = search needs
 
 infill-requires : tie.Need-infill-requires
 infill-requires c κs =
-    let s = c .before .before .before .before in (
-      (s .pre .0 .fits, s .pre .1, s .pre .0 .clear),
+    let after-unquantize = c .before .before in
+    let at-start = after-unquantize .before .before in (
+      (at-start .pre .0 .fits, at-start .pre .1, at-start .pre .0 .clear),
       (
-        grid-zero (s .args .g) (s .args .q) (s .args .seq .now) _ (s .pre .0 .fits) (s .pre .0 .encoded) (grid (c .before .before)),
-        grid-le (s .args .g) (s .args .q) (s .args .seq .now) _ (s .pre .0 .fits) (s .pre .0 .encoded) (grid (c .before .before)),
+        grid-zero (at-start .args .g) (at-start .args .q) (at-start .args .seq .now) _ (at-start .pre .0 .fits) (at-start .pre .0 .encoded) (grid after-unquantize),
+        grid-le (at-start .args .g) (at-start .args .q) (at-start .args .seq .now) _ (at-start .pre .0 .fits) (at-start .pre .0 .encoded) (grid after-unquantize),
       ),
     )
 
 returns : tie.Need-returns
 returns c =
-    let s = c .before .before .before .before .before in
-    c .infill .ensures ∙ infill-is (s .args .g) (s .args .q) (s .args .seq .now) _ (s .pre .0 .fits) (s .pre .0 .encoded) (grid (c .before .before .before))
+    let after-unquantize = c .before .before .before in
+    let at-start = after-unquantize .before .before in
+    c .infill .ensures ∙ infill-is (at-start .args .g) (at-start .args .q) (at-start .args .seq .now) _ (at-start .pre .0 .fits) (at-start .pre .0 .encoded) (grid after-unquantize)
 
 pub decode-any-spec : {M : Type 1} → statement M
 decode-any-spec = tie.close (tie.spec unquantize-requires infill-requires returns)

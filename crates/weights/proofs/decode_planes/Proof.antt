@@ -18,10 +18,11 @@ part-planes-requires c κs = search needs
 
 returns : tie.Need-returns
 returns c =
-    let s = c .before .before .before .before .before in
-    let a = s .args in
-    let e : c .before .before .before .unquantize .last .0 ≡ each (weightOf (a .q)) (a .seq .now) (countOf (a .g)) (replicate mostWeights 0) = rw (← s .pre .1) (c .before .before .before .unquantize .ensures) in
-    rw (s .pre .1) at (c .part-planes .ensures) ∙ planes-are (a .g) (a .q) (a .seq .now) _ (s .pre .0 .fits) (s .pre .0 .encoded) e (s .pre .2) (s .pre .3) (s .pre .4)
+    let after-unquantize = c .before .before .before in
+    let at-start = after-unquantize .before .before in
+    let a = at-start .args in
+    let e : after-unquantize .unquantize .last .0 ≡ each (weightOf (a .q)) (a .seq .now) (countOf (a .g)) (replicate mostWeights 0) = rw (← at-start .pre .1) (after-unquantize .unquantize .ensures) in
+    rw (at-start .pre .1) at (c .part-planes .ensures) ∙ planes-are (a .g) (a .q) (a .seq .now) _ (at-start .pre .0 .fits) (at-start .pre .0 .encoded) e (at-start .pre .2) (at-start .pre .3) (at-start .pre .4)
 
 pub decode-planes-spec : {M : Type 1} → statement M
 decode-planes-spec = tie.close (tie.spec unquantize-requires part-planes-requires returns)

@@ -24,9 +24,10 @@ is-wide-requires c κs = search needs
 
 decode-wide-requires : tie.Need-decode-wide-requires
 decode-wide-requires c κs =
-    let s = c .before .before .before .before .before in
-    let w = wide-true (s .args .g) (rw (c .before .before .is-wide .ensures) at (c .before .if1 .taken)) in
-    (s .pre, refl, w .0, w .1)
+    let after-is-wide = c .before .before in
+    let at-start = after-is-wide .before .before .before in
+    let w = wide-true (at-start .args .g) (rw (after-is-wide .is-wide .ensures) at (c .before .if1 .taken)) in
+    (at-start .pre, refl, w .0, w .1)
 
 returns : tie.Need-returns
 returns c = search needs
@@ -36,9 +37,10 @@ is-whole-requires c κs = search needs
 
 decode-planes-requires : tie.Need-decode-planes-requires
 decode-planes-requires c κs =
-    let s = c .before .before .before .before .before .before .before in
-    let w = whole-true (s .args .g) (rw (c .before .before .is-whole .ensures) at (c .before .if2 .taken)) in
-    (s .pre, refl, w .0, w .1, w .2)
+    let after-is-whole = c .before .before in
+    let at-start = after-is-whole .before .before .before .before .before in
+    let w = whole-true (at-start .args .g) (rw (after-is-whole .is-whole .ensures) at (c .before .if2 .taken)) in
+    (at-start .pre, refl, w .0, w .1, w .2)
 
 returns-2 : tie.Need-returns-2
 returns-2 c = search needs

@@ -15,10 +15,11 @@ unquantize-requires c κs = search needs
 
 returns : tie.Need-returns
 returns c =
-    let s = c .before .before .before .before in
-    let a = s .args in
-    let e : c .unquantize .last .0 ≡ each (weightOf (a .q)) (a .seq .now) (countOf (a .g)) (replicate mostWeights 0) = rw (← s .pre .1, ← s .pre .0 .clear) (c .unquantize .ensures) in
-    whole-is (a .g) (a .q) (a .seq .now) _ (s .pre .0 .fits) (s .pre .0 .encoded) e (s .pre .2) (s .pre .3) (c .before .before .if1 .taken)
+    let at-if1 = c .before .before in
+    let at-start = at-if1 .before .before in
+    let a = at-start .args in
+    let e : c .unquantize .last .0 ≡ each (weightOf (a .q)) (a .seq .now) (countOf (a .g)) (replicate mostWeights 0) = rw (← at-start .pre .1, ← at-start .pre .0 .clear) (c .unquantize .ensures) in
+    whole-is (a .g) (a .q) (a .seq .now) _ (at-start .pre .0 .fits) (at-start .pre .0 .encoded) e (at-start .pre .2) (at-start .pre .3) (at-if1 .if1 .taken)
 
 unquantize-requires-2 : tie.Need-unquantize-requires-2
 unquantize-requires-2 c κs = search needs
@@ -28,10 +29,11 @@ fill-down-requires c κs = search needs
 
 returns-2 : tie.Need-returns-2
 returns-2 c =
-    let s = c .before .before .before .before .before .before .before in
-    let a = s .args in
-    let e : c .before .before .before .unquantize2 .last .0 ≡ each (weightOf (a .q)) (a .seq .now) (countOf (a .g)) (replicate mostWeights 0) = rw (← s .pre .1) (c .before .before .before .unquantize2 .ensures) in
-    c .fill-down .ensures ∙ infill-is (a .g) (a .q) (a .seq .now) _ (s .pre .0 .fits) (s .pre .0 .encoded) e
+    let after-unquantize2 = c .before .before .before in
+    let at-start = after-unquantize2 .before .before .before .before in
+    let a = at-start .args in
+    let e : after-unquantize2 .unquantize2 .last .0 ≡ each (weightOf (a .q)) (a .seq .now) (countOf (a .g)) (replicate mostWeights 0) = rw (← at-start .pre .1) (after-unquantize2 .unquantize2 .ensures) in
+    c .fill-down .ensures ∙ infill-is (a .g) (a .q) (a .seq .now) _ (at-start .pre .0 .fits) (at-start .pre .0 .encoded) e
 
 pub decode-wide-spec : {M : Type 1} → statement M
 decode-wide-spec =

@@ -5,13 +5,17 @@ use Rattle.weights.proofs.is_whole.Tie as tie
 
 returns : tie.Need-returns
 returns c =
-    let g = c .before .before .before .before .before .args .g in
-    rw (eq-eqb (g .planes) 2 (c .before .before .before .if1 .taken), eq-eqb (g .width) (g .footprint .width) (c .before .if2 .taken))
+    let at-if1 = c .before .before .before in
+    let at-start = at-if1 .before .before in
+    let g = at-start .args .g in
+    rw (eq-eqb (g .planes) 2 (at-if1 .if1 .taken), eq-eqb (g .width) (g .footprint .width) (c .before .if2 .taken))
 
 returns-2 : tie.Need-returns-2
 returns-2 c =
-    let g = c .before .before .before .before .args .g in
-    rw (eq-eqb (g .planes) 2 (c .before .before .if1 .taken), ne-eqb (g .width) (g .footprint .width) (c .if2 .left))
+    let at-if1 = c .before .before in
+    let at-start = at-if1 .before .before in
+    let g = at-start .args .g in
+    rw (eq-eqb (g .planes) 2 (at-if1 .if1 .taken), ne-eqb (g .width) (g .footprint .width) (c .if2 .left))
 
 returns-3 : tie.Need-returns-3
 returns-3 c = rw (ne-eqb (c .before .before .args .g .planes) 2 (c .if1 .left))

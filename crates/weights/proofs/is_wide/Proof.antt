@@ -4,7 +4,9 @@ use Rattle.weights.proofs.is_wide.Statement.{statement}
 use Rattle.weights.proofs.is_wide.Tie as tie
 
 returns : tie.Need-returns
-returns c = rw (eq-eqb (c .before .before .before .args .g .planes) 1 (c .before .if1 .taken))
+returns c =
+    let at-start = c .before .before .before in
+    rw (eq-eqb (at-start .args .g .planes) 1 (c .before .if1 .taken))
 
 returns-2 : tie.Need-returns-2
 returns-2 c = rw (ne-eqb (c .before .before .args .g .planes) 1 (c .if1 .left))

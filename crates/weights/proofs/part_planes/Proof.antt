@@ -53,11 +53,15 @@ loop-less : tie.Need-loop-less Inv-loop μ-loop
 loop-less c = omega arith
 
 loop-again : tie.Need-loop-again Inv-loop μ-loop
-loop-again c = (omega arith, parted-turn (c .before .before .before .before .before .args .wv .now) _ _ (omega arith) (c .before .before .before .loop .inv .1))
+loop-again c =
+    let at-loop = c .before .before .before in
+    let at-start = at-loop .before .before in
+    (omega arith, parted-turn (at-start .args .wv .now) _ _ (omega arith) (at-loop .loop .inv .1))
 
 returns : tie.Need-returns Inv-loop μ-loop
 returns c =
-    let e : c .before .loop .i ≡ eights (c .before .before .before .args .n) = omega arith in
+    let at-start = c .before .before .before in
+    let e : c .before .loop .i ≡ eights (at-start .args .n) = omega arith in
     rw e at (c .before .loop .inv .1)
 
 pub part-planes-spec : {M : Type 1} → statement M

@@ -16,18 +16,23 @@ columns-requires c κs = search needs
 
 spread-requires : tie.Need-spread-requires
 spread-requires c κs =
-    let a = c .before .before .before .before .before .args in
-    let fits = c .before .before .before .before .before .pre .0 in (
-      (fits, c .before .before .before .before .before .pre .1, refl),
-      (λ s h. column-at (a .g) fits _ (c .before .before .columns .last .0) s (c .before .before .columns .ensures .0) h, c .before .before .before .before .before .pre .3 .past),
+    let after-columns = c .before .before in
+    let at-start = after-columns .before .before .before in
+    let a = at-start .args in
+    let fits = at-start .pre .0 in (
+      (fits, at-start .pre .1, refl),
+      (λ s h. column-at (a .g) fits _ (after-columns .columns .last .0) s (after-columns .columns .ensures .0) h, at-start .pre .3 .past),
     )
 
 fill-rows-requires : tie.Need-fill-rows-requires
 fill-rows-requires c κs =
-    let a = c .before .before .before .before .before .before .before .before .before .args in
-    let fits = c .before .before .before .before .before .before .before .before .before .pre .0 in (
-      (fits, c .before .before .before .before .before .before .before .before .before .pre .2),
-      (λ s. column-lt (a .g) fits _ (c .before .before .before .before .before .before .columns .last .1 .0) s (c .before .before .before .before .before .before .columns .ensures .1) (mod-lt _ (omega arith)), λ i h. ap (λ (l : List ℕ). getD l i 0) (c .before .before .before .spread .ensures) ∙ spread-past (a .g) (a .next .now) (a .plane) fits (c .before .before .before .before .before .before .before .before .before .pre .1) i h),
+    let after-spread = c .before .before .before in
+    let after-columns = after-spread .before .before .before in
+    let at-start = after-columns .before .before .before in
+    let a = at-start .args in
+    let fits = at-start .pre .0 in (
+      (fits, at-start .pre .2),
+      (λ s. column-lt (a .g) fits _ (after-columns .columns .last .1 .0) s (after-columns .columns .ensures .1) (mod-lt _ (omega arith)), λ i h. ap (λ (l : List ℕ). getD l i 0) (after-spread .spread .ensures) ∙ spread-past (a .g) (a .next .now) (a .plane) fits (at-start .pre .1) i h),
     )
 
 returns : tie.Need-returns

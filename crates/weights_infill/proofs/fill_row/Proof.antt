@@ -44,7 +44,10 @@ element-copy-out-mixed-3 : tie.Need-element-copy-out-mixed-3 Inv-loop μ-loop
 element-copy-out-mixed-3 c = omega arith
 
 mixed-requires : tie.Need-mixed-requires Inv-loop μ-loop
-mixed-requires c κs = (c .before .before .before .before .before .pre .4 (c .before .before .before .before .loop .s), c .before .before .before .before .before .pre .3)
+mixed-requires c κs =
+    let at-loop = c .before .before .before .before in
+    let at-start = at-loop .before in
+    (at-start .pre .4 (at-loop .loop .s), at-start .pre .3)
 
 add-out : tie.Need-add-out Inv-loop μ-loop
 add-out c = omega arith
@@ -60,7 +63,9 @@ loop-less c = omega arith
 
 loop-again : tie.Need-loop-again Inv-loop μ-loop
 unfolding rowAt
-loop-again c = (omega arith, putAt-turn _ _ _ _ _ _ (c .before .before .before .before .before .loop .inv .1) (c .mixed .ensures))
+loop-again c =
+    let at-loop = c .before .before .before .before .before in
+    (omega arith, putAt-turn _ _ _ _ _ _ (at-loop .loop .inv .1) (c .mixed .ensures))
 
 returns : tie.Need-returns Inv-loop μ-loop
 returns c = putAt-end _ _ _ _ _ _ (c .before .loop .inv .1) (omega arith) (omega arith)

@@ -27,30 +27,48 @@ neighbours-requires : tie.Need-neighbours-requires
 neighbours-requires c κs = search needs
 
 fill-plane-requires : tie.Need-fill-plane-requires
-fill-plane-requires c κs = (c .before .before .before .before .pre .0 .0, c .before .before .before .before .pre .0 .0 .planes .0, c .before .before .before .before .pre .0 .2, pairs (c .before .before))
+fill-plane-requires c κs =
+    let after-neighbours = c .before .before in
+    let at-start = after-neighbours .before .before in
+    (at-start .pre .0 .0, at-start .pre .0 .0 .planes .0, at-start .pre .0 .2, pairs after-neighbours)
 
 fill-plane-requires-2 : tie.Need-fill-plane-requires-2
-fill-plane-requires-2 c κs = (c .before .before .before .before .before .before .before .before .before .pre .0 .0, omega arith, refl, pairs (c .before .before .before .before .before .before .before))
+fill-plane-requires-2 c κs =
+    let after-neighbours = c .before .before .before .before .before .before .before in
+    let at-start = after-neighbours .before .before in
+    (at-start .pre .0 .0, omega arith, refl, pairs after-neighbours)
 
 mul-put-second : tie.Need-mul-put-second
-mul-put-second c = omega (arith, c .before .before .before .before .before .before .before .before .before .before .before .before .pre .0 .0 .sides .texels)
+mul-put-second c =
+    let at-start = c .before .before .before .before .before .before .before .before .before .before .before .before in
+    omega (arith, at-start .pre .0 .0 .sides .texels)
 
 put-second-requires : tie.Need-put-second-requires
-put-second-requires c κs = c .before .before .before .before .before .before .before .before .before .before .before .before .before .pre .0 .0 .sides .texels
+put-second-requires c κs =
+    let at-start = c .before .before .before .before .before .before .before .before .before .before .before .before .before in
+    at-start .pre .0 .0 .sides .texels
 
 returns : tie.Need-returns
 returns c =
-    let g = c .before .before .before .before .before .before .before .before .before .before .before .before .before .before .args .g in
-    let next = c .before .before .before .before .before .before .before .before .before .before .before .before .neighbours .last .0 in
-    two-planes g (lowOf next) (c .before .before .before .before .before .before .before .before .before .before .before .before .before .before .pre .0 .0) (c .before .before .before .before .before .before .before .if1 .taken) (c .before .before .before .before .before .before .before .before .before .fill-plane .last .0) (c .put-second .last .0) (c .before .before .before .before .before .before .before .before .before .fill-plane .ensures)
-    (rw (c .before .before .before .before .fill-plane2 .ensures) at (c .put-second .ensures)) ∙ ap (infillOf g) (lows (c .before .before .before .before .before .before .before .before .before .before .before .before))
+    let after-fill-plane2 = c .before .before .before .before in
+    let at-if1 = after-fill-plane2 .before .before .before in
+    let after-fill-plane = at-if1 .before .before in
+    let after-neighbours = after-fill-plane .before .before .before in
+    let at-start = after-neighbours .before .before in
+    let g = at-start .args .g in
+    let next = after-neighbours .neighbours .last .0 in
+    two-planes g (lowOf next) (at-start .pre .0 .0) (at-if1 .if1 .taken) (after-fill-plane .fill-plane .last .0) (c .put-second .last .0) (after-fill-plane .fill-plane .ensures)
+    (rw (after-fill-plane2 .fill-plane2 .ensures) at (c .put-second .ensures)) ∙ ap (infillOf g) (lows after-neighbours)
 
 returns-2 : tie.Need-returns-2
 returns-2 c =
-    let g = c .before .before .before .before .before .before .before .args .g in
-    let next = c .before .before .before .before .before .neighbours .last .0 in
+    let after-fill-plane = c .before .before in
+    let after-neighbours = after-fill-plane .before .before .before in
+    let at-start = after-neighbours .before .before in
+    let g = at-start .args .g in
+    let next = after-neighbours .neighbours .last .0 in
     let e : g .planes ≡ 1 = omega arith in
-    c .before .before .fill-plane .ensures ∙ one-plane g (lowOf next) (c .before .before .before .before .before .before .before .pre .0 .0) e ∙ ap (infillOf g) (lows (c .before .before .before .before .before))
+    after-fill-plane .fill-plane .ensures ∙ one-plane g (lowOf next) (at-start .pre .0 .0) e ∙ ap (infillOf g) (lows after-neighbours)
 
 pub infill-spec : {M : Type 1} → statement M
 infill-spec =

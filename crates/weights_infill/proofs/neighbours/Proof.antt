@@ -54,11 +54,13 @@ loop-less : tie.Need-loop-less Inv-loop μ-loop
 loop-less c = omega arith
 
 loop-again : tie.Need-loop-again Inv-loop μ-loop
-loop-again c = (
-  omega arith,
-  put-turn _ _ _ _ _ _ (c .before .before .before .before .before .loop .inv .1) zero-le
-      (rw (c .before .before .u16-of .ensures .0, c .u16-of2 .ensures .0)),
-)
+loop-again c =
+    let after-u16-of = c .before .before in
+    let at-loop = after-u16-of .before .before .before in (
+      omega arith,
+      put-turn _ _ _ _ _ _ (at-loop .loop .inv .1) zero-le
+          (rw (after-u16-of .u16-of .ensures .0, c .u16-of2 .ensures .0)),
+    )
 
 returns : tie.Need-returns Inv-loop μ-loop
 returns c = put-end _ _ _ _ _ _ (c .before .loop .inv .1) (omega arith) (omega arith)

@@ -19,26 +19,34 @@ abbrev μ-loop : tie.MeasureT-loop
 μ-loop out₀ g at next plane j₀ k₀ out j k = g .height - j
 
 product : (c : tie.After-struct-known2 Inv-loop μ-loop) → c .before .before .before .before .before .before .args .g .width * c .before .before .before .before .before .before .args .g .planes ≤ 24
-product c = mul-le-mul {n₂ = 12} (omega (arith, c .before .before .before .before .before .before .pre .0 .0 .wide, sides-in (c .before .before .before .before .before .before .pre .0 .0))) (c .before .before .before .before .before .before .pre .0 .0 .planes .1)
+product c =
+    let at-start = c .before .before .before .before .before .before in
+    mul-le-mul {n₂ = 12} (omega (arith, at-start .pre .0 .0 .wide, sides-in (at-start .pre .0 .0))) (at-start .pre .0 .0 .planes .1)
 
 rows : (c : tie.After-struct-known2 Inv-loop μ-loop) → c .before .before .before .before .before .loop .j * (c .before .before .before .before .before .before .args .g .width * c .before .before .before .before .before .before .args .g .planes) ≤ mostWeights
-rows c = mul-le-mul {n₂ = 12} (omega (arith, c .before .before .before .before .before .before .pre .0 .0 .high, sides-in (c .before .before .before .before .before .before .pre .0 .0))) (product c)
+rows c =
+    let at-start = c .before .before .before .before .before .before in
+    mul-le-mul {n₂ = 12} (omega (arith, at-start .pre .0 .0 .high, sides-in (at-start .pre .0 .0))) (product c)
 
 loop-holds : tie.Need-loop-holds Inv-loop μ-loop
 loop-holds c = (zero-le, omega arith, c .pre .0 .2 ∙ rows-none _ 208)
 
 mul-spread-row : tie.Need-mul-spread-row Inv-loop μ-loop
-mul-spread-row c = omega (arith, c .before .before .before .before .pre .0 .0 .high, sides-in (c .before .before .before .before .pre .0 .0))
+mul-spread-row c =
+    let at-start = c .before .before .before .before in
+    omega (arith, at-start .pre .0 .0 .high, sides-in (at-start .pre .0 .0))
 
 spread-row-requires : tie.Need-spread-row-requires Inv-loop μ-loop
 spread-row-requires c κs =
-    let a = c .before .before .before .before .args in
-    let fits = c .before .before .before .before .pre .0 .0 in
-    let l = c .before .before .before .loop in
+    let at-loop = c .before .before .before in
+    let at-start = at-loop .before in
+    let a = at-start .args in
+    let fits = at-start .pre .0 .0 in
+    let l = at-loop .loop in
     let t : l .j < a .g .height = omega arith in (
       omega (arith, fits .high, sides-in fits),
       omega (arith, sides-in fits),
-      λ s h. omega (arith, left-in (a .g) (a .next .now) (a .plane) fits (c .before .before .before .before .pre .0 .1) s (l .j) h t, c .before .before .before .before .pre .1 .0 s h, fits .few, l .inv .1),
+      λ s h. omega (arith, left-in (a .g) (a .next .now) (a .plane) fits (at-start .pre .0 .1) s (l .j) h t, at-start .pre .1 .0 s h, fits .few, l .inv .1),
     )
 
 mul-k : tie.Need-mul-k Inv-loop μ-loop
@@ -48,25 +56,31 @@ add-k : tie.Need-add-k Inv-loop μ-loop
 add-k c = omega (arith, product c, rows c)
 
 add-j : tie.Need-add-j Inv-loop μ-loop
-add-j c = omega (arith, c .before .before .before .before .before .before .pre .0 .0 .high, sides-in (c .before .before .before .before .before .before .pre .0 .0))
+add-j c =
+    let at-start = c .before .before .before .before .before .before in
+    omega (arith, at-start .pre .0 .0 .high, sides-in (at-start .pre .0 .0))
 
 loop-less : tie.Need-loop-less Inv-loop μ-loop
 loop-less c = omega arith
 
 loop-again : tie.Need-loop-again Inv-loop μ-loop
 loop-again c =
-    let a = c .before .before .before .before .before .before .args in
-    let l = c .before .before .before .before .before .loop in (
+    let at-loop = c .before .before .before .before .before in
+    let at-start = at-loop .before in
+    let a = at-start .args in
+    let l = at-loop .loop in (
       omega arith,
       omega (arith, l .inv .1),
-      rows-turn (a .g) (a .next .now) (a .plane) (c .before .before .before .before .before .before .pre .0 .0) (c .before .before .before .before .before .before .pre .0 .1) (a .at .now) (l .out) _ (l .j) (l .k) (c .before .before .before .before .before .before .pre .1 .0) (l .inv .1) (l .inv .2) (c .before .spread-row .ensures),
+      rows-turn (a .g) (a .next .now) (a .plane) (at-start .pre .0 .0) (at-start .pre .0 .1) (a .at .now) (l .out) _ (l .j) (l .k) (at-start .pre .1 .0) (l .inv .1) (l .inv .2) (c .before .spread-row .ensures),
     )
 
 returns : tie.Need-returns Inv-loop μ-loop
 returns c =
-    let a = c .before .before .before .args in
-    let l = c .before .before .loop in
-    rows-end (a .g) (a .next .now) (a .plane) (c .before .before .before .pre .0 .0) (c .before .before .before .pre .0 .1) (l .out) (l .j) (omega arith) (c .before .before .before .pre .1 .1) (l .inv .2)
+    let at-loop = c .before .before in
+    let at-start = at-loop .before in
+    let a = at-start .args in
+    let l = at-loop .loop in
+    rows-end (a .g) (a .next .now) (a .plane) (at-start .pre .0 .0) (at-start .pre .0 .1) (l .out) (l .j) (omega arith) (at-start .pre .1 .1) (l .inv .2)
 
 pub spread-spec : {M : Type 1} → statement M
 spread-spec =

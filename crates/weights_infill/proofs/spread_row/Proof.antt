@@ -14,7 +14,11 @@ abbrev μ-loop : tie.MeasureT-loop
 μ-loop out₀ o width at next k s₀ out s = width - s
 
 inside : (c : tie.After-usize-of Inv-loop μ-loop) → c .before .before .before .before .args .k + c .usize-of .result < 72
-inside c = rw (c .usize-of .ensures) (c .before .before .before .before .pre .2 (c .before .before .before .loop .s) (c .before .before .loop-test .taken))
+inside c =
+    let at-loop-test = c .before .before in
+    let at-loop = at-loop-test .before in
+    let at-start = at-loop .before in
+    rw (c .usize-of .ensures) (at-start .pre .2 (at-loop .loop .s) (at-loop-test .loop-test .taken))
 
 loop-holds : tie.Need-loop-holds Inv-loop μ-loop
 loop-holds c = (zero-le, putAt-none _ _ _)
@@ -53,11 +57,13 @@ loop-less : tie.Need-loop-less Inv-loop μ-loop
 loop-less c = omega arith
 
 loop-again : tie.Need-loop-again Inv-loop μ-loop
-loop-again c = (
-  omega arith,
-  putAt-turn _ _ _ _ _ _ (c .before .before .before .before .loop .inv .1)
-      (ap (λ (n : ℕ). getD (c .before .before .before .before .before .args .next .now) (c .before .before .before .before .before .args .k + n) 0) (c .before .usize-of .ensures)),
-)
+loop-again c =
+    let at-loop = c .before .before .before .before in
+    let at-start = at-loop .before in (
+      omega arith,
+      putAt-turn _ _ _ _ _ _ (at-loop .loop .inv .1)
+          (ap (λ (n : ℕ). getD (at-start .args .next .now) (at-start .args .k + n) 0) (c .before .usize-of .ensures)),
+    )
 
 returns : tie.Need-returns Inv-loop μ-loop
 returns c = putAt-end _ _ _ _ _ _ (c .before .loop .inv .1) (omega arith) (omega arith)

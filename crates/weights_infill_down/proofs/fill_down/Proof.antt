@@ -38,18 +38,30 @@ kept-le : (c : tie.After-inside Inv-loop μ-loop) (s : ℕ) → getD (c .inside 
 kept-le c s = rw (kept c s) (choice-le (ltb s (c .before .before .args .g .footprint .width)) 1 0 (omega arith) (omega arith))
 
 at-place : (c : tie.After-place Inv-loop μ-loop) → c .place .result ≡ downOf (c .before .before .before .before .before .before .before .before .before .args .g) (c .before .before .before .loop .t)
-at-place c = down-at (c .before .before .before .before .before .before .before .before .before .args .g) (c .before .before .before .before .before .before .step-of .result) (c .place .result) (c .before .before .before .loop .t) (c .place .ensures .0) (c .before .before .before .before .before .before .step-of .ensures .0)
+at-place c =
+    let at-loop = c .before .before .before in
+    let after-step-of = at-loop .before .before .before in
+    let at-start = after-step-of .before .before .before in
+    down-at (at-start .args .g) (after-step-of .step-of .result) (c .place .result) (at-loop .loop .t) (c .place .ensures .0) (after-step-of .step-of .ensures .0)
 
 in-grid : (c : tie.After-place Inv-loop μ-loop) → c .place .result / 16 ≤ 11
-in-grid c = rw (at-place c) (down-in (c .before .before .before .before .before .before .before .before .before .pre .0) (c .before .before .before .loop .t) (omega arith))
+in-grid c =
+    let at-loop = c .before .before .before in
+    let at-start = at-loop .before .before .before .before .before .before in
+    rw (at-place c) (down-in (at-start .pre .0) (at-loop .loop .t) (omega arith))
 
 offset : (c : tie.After-place Inv-loop μ-loop) → c .before .before .before .loop .o ≤ 132
-offset c = row-start (c .before .before .before .before .before .before .before .before .before .pre .0) (c .before .before .before .loop .t) (c .before .before .before .loop .o) (omega arith) (c .before .before .before .loop .inv .1)
+offset c =
+    let at-loop = c .before .before .before in
+    let at-start = at-loop .before .before .before .before .before .before in
+    row-start (at-start .pre .0) (at-loop .loop .t) (at-loop .loop .o) (omega arith) (at-loop .loop .inv .1)
 
 rows : (c : tie.After-usize-of Inv-loop μ-loop) → c .usize-of .result * c .before .before .before .before .before .before .before .before .before .before .before .args .g .width ≤ 11 * 12
 rows c =
-    let fits = c .before .before .before .before .before .before .before .before .before .before .before .pre .0 in
-    mul-le-mul {n₂ = 11} {m₂ = 12} (omega (arith, c .usize-of .ensures, in-grid (c .before .before))) (omega (arith, fits .wide, sides-in fits))
+    let after-place = c .before .before in
+    let at-start = after-place .before .before .before .before .before .before .before .before .before in
+    let fits = at-start .pre .0 in
+    mul-le-mul {n₂ = 11} {m₂ = 12} (omega (arith, c .usize-of .ensures, in-grid after-place)) (omega (arith, fits .wide, sides-in fits))
 
 inside-requires : tie.Need-inside-requires Inv-loop μ-loop
 inside-requires c κs = omega (arith, sides-in (c .before .pre .0))
@@ -58,21 +70,31 @@ step-of-requires : tie.Need-step-of-requires Inv-loop μ-loop
 step-of-requires c κs = c .before .before .pre .0 .sides .side-high
 
 cast-height : tie.Need-cast-height Inv-loop μ-loop
-cast-height c = omega (arith, c .before .before .before .before .pre .0 .high, sides-in (c .before .before .before .before .pre .0))
+cast-height c =
+    let at-start = c .before .before .before .before in
+    omega (arith, at-start .pre .0 .high, sides-in (at-start .pre .0))
 
 eights-requires : tie.Need-eights-requires Inv-loop μ-loop
-eights-requires c κs = omega (arith, sides-in (c .before .before .before .before .pre .0))
+eights-requires c κs =
+    let at-start = c .before .before .before .before in
+    omega (arith, sides-in (at-start .pre .0))
 
 loop-holds : tie.Need-loop-holds Inv-loop μ-loop
 loop-holds c =
-    let a = c .before .before .before .before .before .args in
-    (zero-le, omega arith, c .before .before .before .before .before .pre .3 ∙ texels-none (a .g .footprint .width) (wholeOf (a .g) (a .wv .now)) mostWeights)
+    let at-start = c .before .before .before .before .before in
+    let a = at-start .args in
+    (zero-le, omega arith, at-start .pre .3 ∙ texels-none (a .g .footprint .width) (wholeOf (a .g) (a .wv .now)) mostWeights)
 
 cast-place : tie.Need-cast-place Inv-loop μ-loop
-cast-place c = omega (arith, sides-in (c .before .before .before .before .before .before .before .before .pre .0))
+cast-place c =
+    let at-start = c .before .before .before .before .before .before .before .before in
+    omega (arith, sides-in (at-start .pre .0))
 
 place-requires : tie.Need-place-requires Inv-loop μ-loop
-place-requires c κs = omega (arith, c .before .before .before .before .before .before .before .before .pre .0 .high, sides-in (c .before .before .before .before .before .before .before .before .pre .0), c .before .before .before .before .before .step-of .ensures .1)
+place-requires c κs =
+    let after-step-of = c .before .before .before .before .before in
+    let at-start = after-step-of .before .before .before in
+    omega (arith, at-start .pre .0 .high, sides-in (at-start .pre .0), after-step-of .step-of .ensures .1)
 
 usize-of-requires : tie.Need-usize-of-requires Inv-loop μ-loop
 usize-of-requires c κs = tt
@@ -82,44 +104,61 @@ mul-fill-row-whole c = omega (arith, rows (c .before))
 
 fill-row-whole-requires : tie.Need-fill-row-whole-requires Inv-loop μ-loop
 fill-row-whole-requires c κs =
-    let fits = c .before .before .before .before .before .before .before .before .before .before .before .before .before .pre .0 in
-    (omega (arith, offset (c .before .before .before .before), sides-in fits), omega (arith, sides-in fits), omega (arith, rows (c .before .before), fits .wide, sides-in fits), omega arith, kept-le (c .before .before .before .before .before .before .before .before .before .before .before))
+    let after-usize-of = c .before .before in
+    let after-place = after-usize-of .before .before in
+    let after-inside = after-place .before .before .before .before .before .before .before in
+    let at-start = after-inside .before .before in
+    let fits = at-start .pre .0 in
+    (omega (arith, offset after-place, sides-in fits), omega (arith, sides-in fits), omega (arith, rows after-usize-of, fits .wide, sides-in fits), omega arith, kept-le after-inside)
 
 add-o : tie.Need-add-o Inv-loop μ-loop
-add-o c = omega (arith, offset (c .before .before .before .before .before .before), sides-in (c .before .before .before .before .before .before .before .before .before .before .before .before .before .before .before .pre .0))
+add-o c =
+    let after-place = c .before .before .before .before .before .before in
+    let at-start = after-place .before .before .before .before .before .before .before .before .before in
+    omega (arith, offset after-place, sides-in (at-start .pre .0))
 
 add-t : tie.Need-add-t Inv-loop μ-loop
-add-t c = omega (arith, sides-in (c .before .before .before .before .before .before .before .before .before .before .before .before .before .before .before .pre .0))
+add-t c =
+    let at-start = c .before .before .before .before .before .before .before .before .before .before .before .before .before .before .before in
+    omega (arith, sides-in (at-start .pre .0))
 
 loop-less : tie.Need-loop-less Inv-loop μ-loop
 loop-less c = omega arith
 
 loop-again : tie.Need-loop-again Inv-loop μ-loop
 loop-again c =
-    let a = c .before .before .before .before .before .before .before .before .before .before .before .before .before .before .before .args in
-    let l = c .before .before .before .before .before .before .before .before .before .loop in
-    let p = c .before .before .before .before .before .before .place .result in
-    let keep = c .before .before .before .before .before .before .before .before .before .before .before .before .before .inside .last .0 in
+    let after-usize-of = c .before .before .before .before in
+    let after-place = after-usize-of .before .before in
+    let at-loop = after-place .before .before .before in
+    let after-eights = at-loop .before in
+    let after-inside = after-eights .before .before .before in
+    let at-start = after-inside .before .before in
+    let a = at-start .args in
+    let l = at-loop .loop in
+    let p = after-place .place .result in
+    let keep = after-inside .inside .last .0 in
     let whole : ℕ → ℕ = wholeAt (a .wv .now) (a .g .width) (p / 16 * a .g .width) (p % 16) in
-    let lanes = c .before .before .before .before .before .before .before .before .before .before .eights in (
+    let lanes = after-eights .eights in (
       omega arith,
       omega (arith, l .inv .1),
       texels-turn (a .g .footprint .width) (l .t) (lanes .result) (wholeOf (a .g) (a .wv .now)) (λ (s : ℕ). whole s * getD keep s 0)
           (l .out) _ (l .o) (l .inv .1) (omega (arith, lanes .ensures))
-          (λ s h. ap (λ (x : ℕ). whole s * x) (kept-in (c .before .before .before .before .before .before .before .before .before .before .before .before .before) s h) ∙ mul-one (whole s)
-          ∙ ap (λ (n : ℕ). wholeAt (a .wv .now) (a .g .width) (n / 16 * a .g .width) (n % 16) s) (at-place (c .before .before .before .before .before .before)))
-          (λ s h m. ap (λ (x : ℕ). whole s * x) (kept-past (c .before .before .before .before .before .before .before .before .before .before .before .before .before) s h) ∙ mul-zero (whole s))
+          (λ s h. ap (λ (x : ℕ). whole s * x) (kept-in after-inside s h) ∙ mul-one (whole s)
+          ∙ ap (λ (n : ℕ). wholeAt (a .wv .now) (a .g .width) (n / 16 * a .g .width) (n % 16) s) (at-place after-place))
+          (λ s h m. ap (λ (x : ℕ). whole s * x) (kept-past after-inside s h) ∙ mul-zero (whole s))
           (l .inv .2)
-          (rw (c .before .before .before .before .usize-of .ensures) at (c .before .fill-row-whole .ensures)),
+          (rw (after-usize-of .usize-of .ensures) at (c .before .fill-row-whole .ensures)),
     )
 
 returns : tie.Need-returns Inv-loop μ-loop
 returns c =
-    let a = c .before .before .before .before .before .before .before .before .args in
-    let l = c .before .before .loop in
+    let at-loop = c .before .before in
+    let at-start = at-loop .before .before .before .before .before .before in
+    let a = at-start .args in
+    let l = at-loop .loop in
     let e : l .t ≡ a .g .footprint .height = omega arith in
     texels-end (a .g) (wholeOf (a .g) (a .wv .now)) (l .out) (l .o) (rw e at (l .inv .1)) (l .inv .2)
-    ∙ down-is (a .g) (c .before .before .before .before .before .before .before .before .pre .0) (c .before .before .before .before .before .before .before .before .pre .2) (c .before .before .before .before .before .before .before .before .pre .1) (a .wv .now)
+    ∙ down-is (a .g) (at-start .pre .0) (at-start .pre .2) (at-start .pre .1) (a .wv .now)
 
 pub fill-down-spec : {M : Type 1} → statement M
 fill-down-spec =

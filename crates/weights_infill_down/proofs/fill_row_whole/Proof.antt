@@ -16,7 +16,10 @@ abbrev μ-loop : tie.MeasureT-loop
 μ-loop out₀ o m wv k width keep h s₀ out s = m - s
 
 product : (c : tie.After-out Inv-loop μ-loop) → c .before .down .result * getD (c .before .before .before .before .before .before .args .keep .now) (c .before .before .before .before .before .loop .s) 0 ≤ 255 * 1
-product c = mul-le-mul {n₂ = 255} {m₂ = 1} (omega (arith, c .before .down .ensures .1)) (c .before .before .before .before .before .before .pre .4 (c .before .before .before .before .before .loop .s))
+product c =
+    let at-loop = c .before .before .before .before .before in
+    let at-start = at-loop .before in
+    mul-le-mul {n₂ = 255} {m₂ = 1} (omega (arith, c .before .down .ensures .1)) (at-start .pre .4 (at-loop .loop .s))
 
 loop-holds : tie.Need-loop-holds Inv-loop μ-loop
 loop-holds c = (zero-le, putAt-none _ _ _)
@@ -64,7 +67,10 @@ loop-less : tie.Need-loop-less Inv-loop μ-loop
 loop-less c = omega arith
 
 loop-again : tie.Need-loop-again Inv-loop μ-loop
-loop-again c = (omega arith, putAt-turn _ _ _ _ _ _ (c .before .before .before .before .before .loop .inv .1) (ap (λ (x : ℕ). x * getD (c .before .before .before .before .before .before .args .keep .now) (c .before .before .before .before .before .loop .s) 0) (c .before .down .ensures .0)))
+loop-again c =
+    let at-loop = c .before .before .before .before .before in
+    let at-start = at-loop .before in
+    (omega arith, putAt-turn _ _ _ _ _ _ (at-loop .loop .inv .1) (ap (λ (x : ℕ). x * getD (at-start .args .keep .now) (at-loop .loop .s) 0) (c .before .down .ensures .0)))
 
 returns : tie.Need-returns Inv-loop μ-loop
 returns c = putAt-end _ _ _ _ _ _ (c .before .loop .inv .1) (omega arith) (omega arith)

@@ -24,7 +24,10 @@ element-copy-out-out : tie.Need-element-copy-out-out Inv-loop μ-loop
 element-copy-out-out c = omega arith
 
 mul-out : tie.Need-mul-out Inv-loop μ-loop
-mul-out c = record { fits = c .before .before .before .before .pre .1 (c .before .before .loop .i) }
+mul-out c =
+    let at-loop = c .before .before in
+    let at-start = at-loop .before .before in
+    record { fits = at-start .pre .1 (at-loop .loop .i) }
 
 element-write-out : tie.Need-element-write-out Inv-loop μ-loop
 element-write-out c = omega arith

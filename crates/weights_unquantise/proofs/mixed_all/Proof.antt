@@ -30,7 +30,9 @@ u16-of-requires c κs = omega arith
 
 sum-requires : tie.Need-sum-requires Inv-loop μ-loop
 sum-requires c κs =
-    (c .before .before .before .before .before .pre .1, rw (c .u16-of .ensures .0) (c .before .before .before .before .before .pre .2 (c .before .before .before .loop .i)))
+    let at-loop = c .before .before .before in
+    let at-start = at-loop .before .before in
+    (at-start .pre .1, rw (c .u16-of .ensures .0) (at-start .pre .2 (at-loop .loop .i)))
 
 turn-requires : tie.Need-turn-requires Inv-loop μ-loop
 turn-requires c κs = omega arith
@@ -49,12 +51,15 @@ loop-less c = omega arith
 
 loop-again : tie.Need-loop-again Inv-loop μ-loop
 unfolding mixedOf
-loop-again c = (
-  omega arith,
-  put-turn _ _ _ _ _ _ (c .before .before .before .before .before .before .loop .inv .1) zero-le
-      (c .raise .ensures ∙ ap raised (c .before .turn .ensures .0 ∙ ap (turned (c .before .before .before .u16-of .result % 2)) (c .before .before .sum .ensures .0))
-      ∙ ap (mixedOf _ _ _) (c .before .before .before .u16-of .ensures .0)),
-)
+loop-again c =
+    let after-sum = c .before .before in
+    let after-u16-of = after-sum .before in
+    let at-loop = after-u16-of .before .before .before in (
+      omega arith,
+      put-turn _ _ _ _ _ _ (at-loop .loop .inv .1) zero-le
+          (c .raise .ensures ∙ ap raised (c .before .turn .ensures .0 ∙ ap (turned (after-u16-of .u16-of .result % 2)) (after-sum .sum .ensures .0))
+          ∙ ap (mixedOf _ _ _) (after-u16-of .u16-of .ensures .0)),
+    )
 
 returns : tie.Need-returns Inv-loop μ-loop
 returns c = put-end _ _ _ _ _ _ (c .before .loop .inv .1) (omega arith) (omega arith)

@@ -31,13 +31,17 @@ u16-of-requires : tie.Need-u16-of-requires Inv-loop μ-loop
 u16-of-requires c κs = omega arith
 
 mul-raise : tie.Need-mul-raise Inv-loop μ-loop
-mul-raise c = omega (arith, mul-le-mul (c .u16-of .ensures .1) (c .before .before .before .before .before .pre .1))
+mul-raise c =
+    let at-start = c .before .before .before .before .before in
+    omega (arith, mul-le-mul (c .u16-of .ensures .1) (at-start .pre .1))
 
 shr-raise : tie.Need-shr-raise Inv-loop μ-loop
 shr-raise c = omega arith
 
 add-raise : tie.Need-add-raise Inv-loop μ-loop
-add-raise c = omega (arith, mul-le-mul (c .u16-of .ensures .1) (c .before .before .before .before .before .pre .1), shr-le (c .u16-of .result) (c .before .before .before .before .before .args .over))
+add-raise c =
+    let at-start = c .before .before .before .before .before in
+    omega (arith, mul-le-mul (c .u16-of .ensures .1) (at-start .pre .1), shr-le (c .u16-of .result) (at-start .args .over))
 
 raise-requires : tie.Need-raise-requires Inv-loop μ-loop
 raise-requires c κs = omega arith
@@ -53,7 +57,9 @@ loop-less c = omega arith
 
 loop-again : tie.Need-loop-again Inv-loop μ-loop
 unfolding plainOf
-loop-again c = (omega arith, put-turn _ _ _ _ _ _ (c .before .before .before .before .loop .inv .1) zero-le (c .raise .ensures ∙ ap (plainOf _ _) (c .before .u16-of .ensures .0)))
+loop-again c =
+    let at-loop = c .before .before .before .before in
+    (omega arith, put-turn _ _ _ _ _ _ (at-loop .loop .inv .1) zero-le (c .raise .ensures ∙ ap (plainOf _ _) (c .before .u16-of .ensures .0)))
 
 returns : tie.Need-returns Inv-loop μ-loop
 returns c = put-end _ _ _ _ _ _ (c .before .loop .inv .1) (omega arith) (omega arith)

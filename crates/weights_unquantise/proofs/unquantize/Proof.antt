@@ -76,40 +76,76 @@ plain-all-requires-5 : tie.Need-plain-all-requires-5
 plain-all-requires-5 c κs = search needs
 
 returns : tie.Need-returns
-returns c = arm (c .before .before .before) 0 _ (c .before .before .match .keys1) (c .plain-all .ensures)
+returns c =
+    let at-match = c .before .before in
+    let at-start = at-match .before in
+    arm at-start 0 _ (at-match .match .keys1) (c .plain-all .ensures)
 
 returns-2 : tie.Need-returns-2
-returns-2 c = arm (c .before .before .before) 1 _ (c .before .before .match .keys2) (c .digit-all .ensures)
+returns-2 c =
+    let at-match = c .before .before in
+    let at-start = at-match .before in
+    arm at-start 1 _ (at-match .match .keys2) (c .digit-all .ensures)
 
 returns-3 : tie.Need-returns-3
-returns-3 c = arm (c .before .before .before) 2 _ (c .before .before .match .keys3) (c .plain-all2 .ensures)
+returns-3 c =
+    let at-match = c .before .before in
+    let at-start = at-match .before in
+    arm at-start 2 _ (at-match .match .keys3) (c .plain-all2 .ensures)
 
 returns-4 : tie.Need-returns-4
-returns-4 c = arm (c .before .before .before) 3 _ (c .before .before .match .keys4) (c .digit-all2 .ensures)
+returns-4 c =
+    let at-match = c .before .before in
+    let at-start = at-match .before in
+    arm at-start 3 _ (at-match .match .keys4) (c .digit-all2 .ensures)
 
 returns-5 : tie.Need-returns-5
-returns-5 c = arm (c .before .before .before) 4 _ (c .before .before .match .keys5) (c .mixed-all .ensures)
+returns-5 c =
+    let at-match = c .before .before in
+    let at-start = at-match .before in
+    arm at-start 4 _ (at-match .match .keys5) (c .mixed-all .ensures)
 
 returns-6 : tie.Need-returns-6
-returns-6 c = arm (c .before .before .before) 5 _ (c .before .before .match .keys6) (c .plain-all3 .ensures)
+returns-6 c =
+    let at-match = c .before .before in
+    let at-start = at-match .before in
+    arm at-start 5 _ (at-match .match .keys6) (c .plain-all3 .ensures)
 
 returns-7 : tie.Need-returns-7
-returns-7 c = arm (c .before .before .before) 6 _ (c .before .before .match .keys7) (c .mixed-all2 .ensures)
+returns-7 c =
+    let at-match = c .before .before in
+    let at-start = at-match .before in
+    arm at-start 6 _ (at-match .match .keys7) (c .mixed-all2 .ensures)
 
 returns-8 : tie.Need-returns-8
-returns-8 c = arm (c .before .before .before) 7 _ (c .before .before .match .keys8) (c .mixed-all3 .ensures)
+returns-8 c =
+    let at-match = c .before .before in
+    let at-start = at-match .before in
+    arm at-start 7 _ (at-match .match .keys8) (c .mixed-all3 .ensures)
 
 returns-9 : tie.Need-returns-9
-returns-9 c = arm (c .before .before .before) 8 _ (c .before .before .match .keys9) (c .plain-all4 .ensures)
+returns-9 c =
+    let at-match = c .before .before in
+    let at-start = at-match .before in
+    arm at-start 8 _ (at-match .match .keys9) (c .plain-all4 .ensures)
 
 returns-10 : tie.Need-returns-10
-returns-10 c = arm (c .before .before .before) 9 _ (c .before .before .match .keys10) (c .mixed-all4 .ensures)
+returns-10 c =
+    let at-match = c .before .before in
+    let at-start = at-match .before in
+    arm at-start 9 _ (at-match .match .keys10) (c .mixed-all4 .ensures)
 
 returns-11 : tie.Need-returns-11
-returns-11 c = arm (c .before .before .before) 10 _ (c .before .before .match .keys11) (c .mixed-all5 .ensures)
+returns-11 c =
+    let at-match = c .before .before in
+    let at-start = at-match .before in
+    arm at-start 10 _ (at-match .match .keys11) (c .mixed-all5 .ensures)
 
 returns-12 : tie.Need-returns-12
-returns-12 c = arm (c .before .before .before) 11 _ (last-arm 11 _ (omega arith) (c .before .before .match .rest)) (c .plain-all5 .ensures)
+returns-12 c =
+    let at-match = c .before .before in
+    let at-start = at-match .before in
+    arm at-start 11 _ (last-arm 11 _ (omega arith) (at-match .match .rest)) (c .plain-all5 .ensures)
 
 pub unquantize-spec : {M : Type 1} → statement M
 unquantize-spec =

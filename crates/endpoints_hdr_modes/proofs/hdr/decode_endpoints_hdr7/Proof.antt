@@ -47,8 +47,15 @@ set-endpoint-hdr-requires c κs = search needs
 returns : tie.Need-returns
 unfolding sevenValue hdr7
 returns c =
+    let after-swap2 = c .before .before in
+    let after-less-seven2 = after-swap2 .before in
+    let after-swap = after-less-seven2 .before in
+    let after-less-seven = after-swap .before in
+    let after-parts-of-seven = after-less-seven .before in
+    let after-major-seven = after-parts-of-seven .before in
+    let after-mode-seven = after-major-seven .before in
     c .set-endpoint-hdr .ensures
-    ∙ rw (c .before .hdr-alphas-of .ensures, c .before .before .swap2 .ensures, c .before .before .before .less-seven2 .ensures, c .before .before .before .before .swap .ensures, c .before .before .before .before .before .less-seven .ensures, c .before .before .before .before .before .before .parts-of-seven .ensures .0, c .before .before .before .before .before .before .before .major-seven .ensures, c .before .before .before .before .before .before .before .before .mode-seven .ensures .0)
+    ∙ rw (c .before .hdr-alphas-of .ensures, after-swap2 .swap2 .ensures, after-less-seven2 .less-seven2 .ensures, after-swap .swap .ensures, after-less-seven .less-seven .ensures, after-parts-of-seven .parts-of-seven .ensures .0, after-major-seven .major-seven .ensures, after-mode-seven .mode-seven .ensures .0)
 
 pub decode-endpoints-hdr7-spec : {M : Type 1} → statement M
 decode-endpoints-hdr7-spec =

@@ -20,7 +20,11 @@ rgb-of-requires c κs = search needs
 
 returns : tie.Need-returns
 unfolding sevenLess
-returns c = c .rgb-of .ensures ∙ rw (c .before .lessened3 .ensures, c .before .before .lessened2 .ensures, c .before .before .before .lessened .ensures, eq-eqb _ _ (c .before .before .before .before .if1 .taken))
+returns c =
+    let after-lessened2 = c .before .before in
+    let after-lessened = after-lessened2 .before in
+    let at-if1 = after-lessened .before in
+    c .rgb-of .ensures ∙ rw (c .before .lessened3 .ensures, after-lessened2 .lessened2 .ensures, after-lessened .lessened .ensures, eq-eqb _ _ (at-if1 .if1 .taken))
 
 lessened-requires-4 : tie.Need-lessened-requires-4
 lessened-requires-4 c κs = search needs
@@ -42,7 +46,11 @@ rgb-of-requires-2 c κs = search needs
 
 returns-2 : tie.Need-returns-2
 unfolding sevenLess
-returns-2 c = c .rgb-of2 .ensures ∙ rw (c .before .lessened6 .ensures, c .before .before .before .lessened5 .ensures, c .before .before .before .before .before .lessened4 .ensures, ne-eqb _ _ (c .before .before .before .before .before .before .if1 .left))
+returns-2 c =
+    let after-lessened5 = c .before .before .before in
+    let after-lessened4 = after-lessened5 .before .before in
+    let at-if1 = after-lessened4 .before in
+    c .rgb-of2 .ensures ∙ rw (c .before .lessened6 .ensures, after-lessened5 .lessened5 .ensures, after-lessened4 .lessened4 .ensures, ne-eqb _ _ (at-if1 .if1 .left))
 
 pub less-seven-spec : {M : Type 1} → statement M
 less-seven-spec =

@@ -17,7 +17,10 @@ set-endpoint-hdr-requires : tie.Need-set-endpoint-hdr-requires
 set-endpoint-hdr-requires c κs = search needs
 
 returns : tie.Need-returns
-returns c = c .set-endpoint-hdr .ensures ∙ rw (c .before .hdr-alphas-of .ensures, c .before .before .rgb-of2 .ensures, c .before .before .before .rgb-of .ensures)
+returns c =
+    let after-rgb-of2 = c .before .before in
+    let after-rgb-of = after-rgb-of2 .before in
+    c .set-endpoint-hdr .ensures ∙ rw (c .before .hdr-alphas-of .ensures, after-rgb-of2 .rgb-of2 .ensures, after-rgb-of .rgb-of .ensures)
 
 pub set-endpoint-grey-spec : {M : Type 1} → statement M
 set-endpoint-grey-spec =

@@ -18,7 +18,10 @@ cast-t5 : tie.Need-cast-t5
 cast-t5 c = search needs
 
 returns-2 : tie.Need-returns-2
-returns-2 c = rw (ne-eqb _ _ (c .before .before .before .if1 .left), eq-eqb _ _ (c .before .before .if2 .taken))
+returns-2 c =
+    let at-if2 = c .before .before in
+    let at-if1 = at-if2 .before in
+    rw (ne-eqb _ _ (at-if1 .if1 .left), eq-eqb _ _ (at-if2 .if2 .taken))
 
 hdr-alphas-requires : tie.Need-hdr-alphas-requires
 hdr-alphas-requires c κs = search needs

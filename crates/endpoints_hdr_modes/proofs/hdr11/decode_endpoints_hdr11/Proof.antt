@@ -20,19 +20,29 @@ add-major : tie.Need-add-major
 add-major c = search needs
 
 cast-rgb-of : tie.Need-cast-rgb-of
-cast-rgb-of c = fits 255 (under (bytes (c .before .before .before .before) .v0)) (lit≤ tt)
+cast-rgb-of c =
+    let at-start = c .before .before .before .before in
+    fits 255 (under (bytes at-start .v0)) (lit≤ tt)
 
 mul-rgb-of : tie.Need-mul-rgb-of
-mul-rgb-of c = times-fits 255 16 (under (bytes (c .before .before .before .before) .v0)) (lit≤ tt)
+mul-rgb-of c =
+    let at-start = c .before .before .before .before in
+    times-fits 255 16 (under (bytes at-start .v0)) (lit≤ tt)
 
 cast-rgb-of-2 : tie.Need-cast-rgb-of-2
-cast-rgb-of-2 c = fits 255 (under (bytes (c .before .before .before .before .before) .v2)) (lit≤ tt)
+cast-rgb-of-2 c =
+    let at-start = c .before .before .before .before .before in
+    fits 255 (under (bytes at-start .v2)) (lit≤ tt)
 
 mul-rgb-of-2 : tie.Need-mul-rgb-of-2
-mul-rgb-of-2 c = times-fits 255 16 (under (bytes (c .before .before .before .before .before) .v2)) (lit≤ tt)
+mul-rgb-of-2 c =
+    let at-start = c .before .before .before .before .before in
+    times-fits 255 16 (under (bytes at-start .v2)) (lit≤ tt)
 
 cast-rgb-of-3 : tie.Need-cast-rgb-of-3
-cast-rgb-of-3 c = fits 255 (under (bytes (c .before .before .before .before .before .before) .v4)) (lit≤ tt)
+cast-rgb-of-3 c =
+    let at-start = c .before .before .before .before .before .before in
+    fits 255 (under (bytes at-start .v4)) (lit≤ tt)
 
 mul-rgb-of-3 : tie.Need-mul-rgb-of-3
 mul-rgb-of-3 c = times-fits 127 32 (low-7 _) (lit≤ tt)
@@ -41,19 +51,29 @@ rgb-of-requires : tie.Need-rgb-of-requires
 rgb-of-requires c κs = search needs
 
 cast-rgb-of-4 : tie.Need-cast-rgb-of-4
-cast-rgb-of-4 c = fits 255 (under (bytes (c .before .before .before .before .before .before .before .before) .v1)) (lit≤ tt)
+cast-rgb-of-4 c =
+    let at-start = c .before .before .before .before .before .before .before .before in
+    fits 255 (under (bytes at-start .v1)) (lit≤ tt)
 
 mul-rgb-of-4 : tie.Need-mul-rgb-of-4
-mul-rgb-of-4 c = times-fits 255 16 (under (bytes (c .before .before .before .before .before .before .before .before) .v1)) (lit≤ tt)
+mul-rgb-of-4 c =
+    let at-start = c .before .before .before .before .before .before .before .before in
+    times-fits 255 16 (under (bytes at-start .v1)) (lit≤ tt)
 
 cast-rgb-of-5 : tie.Need-cast-rgb-of-5
-cast-rgb-of-5 c = fits 255 (under (bytes (c .before .before .before .before .before .before .before .before .before) .v3)) (lit≤ tt)
+cast-rgb-of-5 c =
+    let at-start = c .before .before .before .before .before .before .before .before .before in
+    fits 255 (under (bytes at-start .v3)) (lit≤ tt)
 
 mul-rgb-of-5 : tie.Need-mul-rgb-of-5
-mul-rgb-of-5 c = times-fits 255 16 (under (bytes (c .before .before .before .before .before .before .before .before .before) .v3)) (lit≤ tt)
+mul-rgb-of-5 c =
+    let at-start = c .before .before .before .before .before .before .before .before .before in
+    times-fits 255 16 (under (bytes at-start .v3)) (lit≤ tt)
 
 cast-rgb-of-6 : tie.Need-cast-rgb-of-6
-cast-rgb-of-6 c = fits 255 (under (bytes (c .before .before .before .before .before .before .before .before .before .before) .v5)) (lit≤ tt)
+cast-rgb-of-6 c =
+    let at-start = c .before .before .before .before .before .before .before .before .before .before in
+    fits 255 (under (bytes at-start .v5)) (lit≤ tt)
 
 mul-rgb-of-6 : tie.Need-mul-rgb-of-6
 mul-rgb-of-6 c = times-fits 127 32 (low-7 _) (lit≤ tt)
@@ -66,7 +86,10 @@ set-endpoint-hdr-requires c κs = search needs
 
 returns : tie.Need-returns
 unfolding hdr11 elevenMajor elevenMode
-returns c = c .set-endpoint-hdr .ensures ∙ rw (c .before .rgb-of2 .ensures, c .before .before .before .before .before .rgb-of .ensures, eq-eqb _ _ (c .before .before .before .before .before .before .before .before .before .if1 .taken))
+returns c =
+    let after-rgb-of = c .before .before .before .before .before in
+    let at-if1 = after-rgb-of .before .before .before .before in
+    c .set-endpoint-hdr .ensures ∙ rw (c .before .rgb-of2 .ensures, after-rgb-of .rgb-of .ensures, eq-eqb _ _ (at-if1 .if1 .taken))
 
 mul-parts-of-eleven : tie.Need-mul-parts-of-eleven
 mul-parts-of-eleven c = search needs
@@ -81,7 +104,9 @@ add-parts-of-eleven-2 : tie.Need-add-parts-of-eleven-2
 add-parts-of-eleven-2 c = search needs
 
 parts-of-eleven-requires : tie.Need-parts-of-eleven-requires
-parts-of-eleven-requires c κs = mode-lt _ (bytes (c .before .before .before .before .before .before))
+parts-of-eleven-requires c κs =
+    let at-start = c .before .before .before .before .before .before in
+    mode-lt _ (bytes at-start)
 
 first-eleven-requires : tie.Need-first-eleven-requires
 first-eleven-requires c κs = search needs
@@ -100,7 +125,13 @@ set-endpoint-hdr-requires-2 c κs = search needs
 
 returns-2 : tie.Need-returns-2
 returns-2 c =
-    eleven-out _ _ _ _ _ _ _ _ (bytes (c .before .before .before .before .before .before .before .before .before .before .before .before)) (c .before .before .before .before .before .before .before .before .before .if1 .left) (c .before .before .before .before .before .parts-of-eleven .ensures .0) (c .before .before .before .before .first-eleven .ensures) (c .before .before .before .swap .ensures) (c .before .before .second-eleven .ensures) (c .before .swap2 .ensures) (c .set-endpoint-hdr2 .ensures)
+    let after-second-eleven = c .before .before in
+    let after-swap = after-second-eleven .before in
+    let after-first-eleven = after-swap .before in
+    let after-parts-of-eleven = after-first-eleven .before in
+    let at-if1 = after-parts-of-eleven .before .before .before .before in
+    let at-start = at-if1 .before .before .before in
+    eleven-out _ _ _ _ _ _ _ _ (bytes at-start) (at-if1 .if1 .left) (after-parts-of-eleven .parts-of-eleven .ensures .0) (after-first-eleven .first-eleven .ensures) (after-swap .swap .ensures) (after-second-eleven .second-eleven .ensures) (c .before .swap2 .ensures) (c .set-endpoint-hdr2 .ensures)
 
 pub decode-endpoints-hdr11-spec : {M : Type 1} → statement M
 decode-endpoints-hdr11-spec =

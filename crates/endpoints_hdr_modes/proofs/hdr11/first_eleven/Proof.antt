@@ -29,7 +29,10 @@ rgb-of-requires : tie.Need-rgb-of-requires
 rgb-of-requires c κs = search needs
 
 returns : tie.Need-returns
-returns c = c .rgb-of .ensures ∙ rw (c .before .lessened3 .ensures, c .before .before .before .before .lessened2 .ensures, c .before .before .before .before .before .before .before .lessened .ensures)
+returns c =
+    let after-lessened2 = c .before .before .before .before in
+    let after-lessened = after-lessened2 .before .before .before in
+    c .rgb-of .ensures ∙ rw (c .before .lessened3 .ensures, after-lessened2 .lessened2 .ensures, after-lessened .lessened .ensures)
 
 pub first-eleven-spec : {M : Type 1} → statement M
 first-eleven-spec =

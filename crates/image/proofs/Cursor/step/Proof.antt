@@ -29,9 +29,11 @@ add-paint-blocks c = search needs
 
 paint-blocks-requires : tie.Need-paint-blocks-requires
 paint-blocks-requires c κs =
-    let tested = c .before .before .before in
-    let passed = step-accepted _ _ _ _ _ _ (tested .before .step-refusal .ensures) (tested .if1 .left) in
-    (passed .0, (omega arith, omega (arith, passed .1, c .before .before .total .ensures .0, c .before .smaller .ensures)))
+    let after-total = c .before .before in
+    let at-if1 = after-total .before in
+    let after-step-refusal = at-if1 .before in
+    let passed = step-accepted _ _ _ _ _ _ (after-step-refusal .step-refusal .ensures) (at-if1 .if1 .left) in
+    (passed .0, (omega arith, omega (arith, passed .1, after-total .total .ensures .0, c .before .smaller .ensures)))
 
 moved-requires : tie.Need-moved-requires
 moved-requires c κs = search needs
@@ -41,11 +43,13 @@ same-length c = search needs
 
 returns-2 : tie.Need-returns-2
 returns-2 c =
-    let painted = c .before .before .before in
-    let ended = painted .before .before .before in
-    let tested = ended .before in
-    step-painted _ _ _ _ _ (tested .before .step-refusal .ensures) _ _ _ _ _ (tested .if1 .left) (ended .total .ensures .0) (painted .before .before .smaller .ensures) (painted .paint-blocks .ensures .0)
-    (painted .paint-blocks .ensures .1) (c .moved .ensures)
+    let after-paint-blocks = c .before .before .before in
+    let after-smaller = after-paint-blocks .before .before in
+    let after-total = after-smaller .before in
+    let at-if1 = after-total .before in
+    let after-step-refusal = at-if1 .before in
+    step-painted _ _ _ _ _ (after-step-refusal .step-refusal .ensures) _ _ _ _ _ (at-if1 .if1 .left) (after-total .total .ensures .0) (after-smaller .smaller .ensures) (after-paint-blocks .paint-blocks .ensures .0)
+    (after-paint-blocks .paint-blocks .ensures .1) (c .moved .ensures)
 
 pub step-spec : {M : Type 1} → statement M
 step-spec =

@@ -15,10 +15,11 @@ u16-of-requires c κs = search needs
 
 select-color-byte-requires : tie.Need-select-color-byte-requires
 select-color-byte-requires c κs =
+    let at-start = c .before .before .before in
     let e = c .before .enum-told .given .1 in
-    let p = c .before .before .before .pre in
-    let a : c .before .before .before .args .v0 < 256 = limit-of e (p .0) in
-    let b : c .before .before .before .args .v1 < 256 = limit-of e (p .1) in
+    let p = at-start .pre in
+    let a : at-start .args .v0 < 256 = limit-of e (p .0) in
+    let b : at-start .args .v1 < 256 = limit-of e (p .1) in
     omega arith
 
 cast-result : tie.Need-cast-result

@@ -20,7 +20,10 @@ abbrev μ-loop : tie.MeasureT-loop
 
 -- the texel's partition is one of four
 inside : (c : tie.After-place Inv-loop μ-loop) → c .place .result < 4
-inside c = rw (c .place .ensures) (c .before .before .before .before .before .pre .1 .1 .1 (c .before .before .before .loop .i))
+inside c =
+    let at-loop = c .before .before .before in
+    let at-start = at-loop .before .before in
+    rw (c .place .ensures) (at-start .pre .1 .1 .1 (at-loop .loop .i))
 
 eights-requires : tie.Need-eights-requires Inv-loop μ-loop
 eights-requires c κs = omega arith
@@ -66,7 +69,8 @@ element-copy-out-texel-4 c = omega arith
 
 texel-requires : tie.Need-texel-requires Inv-loop μ-loop
 texel-requires c κs =
-    let p = c .before .before .before .before .before .before .before .before .before .before .before .before .before .before .pre .1 in
+    let at-start = c .before .before .before .before .before .before .before .before .before .before .before .before .before .before in
+    let p = at-start .pre .1 in
     (p .0 _, p .1 .0 _, p .1 .0 _, p .1 .0 _, p .1 .0 _)
 
 low-requires : tie.Need-low-requires Inv-loop μ-loop
@@ -104,13 +108,17 @@ loop-less c = omega arith
 
 loop-again : tie.Need-loop-again Inv-loop μ-loop
 loop-again c =
-    let l = c .before .before .before .before .before .before .before .before .before .before .before .before .before .before .before .loop in
-    let e = rw (c .before .before .before .before .before .before .before .before .before .before .before .before .place .ensures) at (c .before .before .texel .ensures) in
+    let after-texel = c .before .before in
+    let after-place = after-texel .before .before .before .before .before .before .before .before .before .before in
+    let at-loop = after-place .before .before .before in
+    let l = at-loop .loop in
+    let e = rw (after-place .place .ensures) at (after-texel .texel .ensures) in
     (omega arith, word-stores _ _ _ _ _ _ _ (l .inv .1) e (c .before .low .ensures) (c .high .ensures))
 
 returns : tie.Need-returns Inv-loop μ-loop
 returns c =
-    let e : c .before .loop .i ≡ eights (c .before .before .before .args .n) = omega arith in
+    let at-start = c .before .before .before in
+    let e : c .before .loop .i ≡ eights (at-start .args .n) = omega arith in
     rw e at (c .before .loop .inv .1)
 
 pub paint-any-spec : {M : Type 1} → statement M

@@ -22,7 +22,11 @@ color-requires c κs = search needs
 
 returns : tie.Need-returns
 unfolding wordBy
-returns c = c .color .ensures ∙ rw (c .before .before .before .before .channel-by .ensures, c .before .before .before .channel-by2 .ensures, c .before .before .channel-by3 .ensures, c .before .channel-by4 .ensures)
+returns c =
+    let after-channel-by3 = c .before .before in
+    let after-channel-by2 = after-channel-by3 .before in
+    let after-channel-by = after-channel-by2 .before in
+    c .color .ensures ∙ rw (after-channel-by .channel-by .ensures, after-channel-by2 .channel-by2 .ensures, after-channel-by3 .channel-by3 .ensures, c .before .channel-by4 .ensures)
 
 pub texel-spec : {M : Type 1} → statement M
 texel-spec =
