@@ -4,5 +4,8 @@ pub mod Kinds
 pub mod Values
 pub mod Steps
 pub mod Tight
+pub mod TightLayers
+pub mod TightBlock
 pub mod TightImage
+pub mod TightPrograms
 pub mod Reduced

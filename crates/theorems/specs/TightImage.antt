@@ -1,4 +1,4 @@
--- Each public promise of the image and of the C surface allows one outcome. Tight has those below them, and says what that means.
+-- Each public promise of the image and of the C surface allows one outcome (Tight says what that means).
 -- Assumes nothing.
 use mathlib.Core.Path.{_≡_, sym, _∙_}
 use mathlib.Core.List.{List}
@@ -83,12 +83,9 @@ module _ (bw bh : ℕ) where
     pub astc-decode-image : TightBoth ℕ (List ℕ) (λ a out. (a ≡ refusalOf (shape width height bw bh) (length d) (length o)) × (out ≡ imageOf d (shape width height bw bh) o))
     astc-decode-image = decode-astc d (shape width height bw bh) o
 
-    -- an answer, words, and where the step led
-    abbrev pub Led : ℕ → ℕ → List ℕ → ℕ → List ℕ → List ℕ → Type 0
-    Led next blocks l a out moved =
-        (a ≡ stepAnswerIn (cursor width height bw bh next) (length d) blocks (length o) (length l))
-        × ((out ≡ steppedIn d (cursor width height bw bh next) blocks (length l) o) × (moved ≡ movedIn d (cursor width height bw bh next) blocks (length o) l))
-
-    pub astc-image-step : (next blocks : ℕ) (l : List ℕ) (a a′ : ℕ) (out out′ moved moved′ : List ℕ)
-        → Led next blocks l a out moved → Led next blocks l a′ out′ moved′ → (a ≡ a′) × ((out ≡ out′) × (moved ≡ moved′))
-    astc-image-step next blocks l a a′ out out′ moved moved′ p q = (p .0 ∙ sym (q .0), (p .1 .0 ∙ sym (q .1 .0), p .1 .1 ∙ sym (q .1 .1)))
+    pub astc-image-step : (next blocks : ℕ) (l : List ℕ)
+        → TightThree ℕ (List ℕ) (List ℕ) (λ a out moved. (a ≡ stepAnswerIn (cursor width height bw bh next) (length d) blocks (length o) (length l))
+        × (out ≡ steppedIn d (cursor width height bw bh next) blocks (length l) o) × (moved ≡ movedIn d (cursor width height bw bh next) blocks (length o) l))
+    astc-image-step next blocks l =
+        three ℕ (List ℕ) (List ℕ) (stepAnswerIn (cursor width height bw bh next) (length d) blocks (length o) (length l))
+        (steppedIn d (cursor width height bw bh next) blocks (length l) o) (movedIn d (cursor width height bw bh next) blocks (length o) l)
