@@ -1,4 +1,4 @@
--- The numbers that calls answer, by document 01's table and the orders.
+-- The numbers that calls answer, by the table of docs/SCOPE.md.
 -- Assumes nothing.
 use mathlib.Core.Bool.{Bool}
 use Prim.Native.Nat.{ℕ}

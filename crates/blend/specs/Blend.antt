@@ -1,4 +1,5 @@
 -- The channel of a texel from two endpoints and a weight of 0..64, its reduction to a byte, and the word of four bytes.
+-- Written from the ASTC chapter's section "Weight Application"; the reduction to a byte is the original's own.
 -- Assumes nothing.
 use mathlib.Core.Bool.{cond}
 use Prim.Native.Nat.{ℕ, _+_, _-_, _*_, _/_, _%_}

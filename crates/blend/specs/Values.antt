@@ -1,4 +1,4 @@
--- Document 01's values P7 to P10, and its slip on blending by the top eight bits. Each is computed.
+-- The values P7 to P10 of docs/SCOPE.md, and its slip on blending by the top eight bits. Each is computed.
 -- Assumes nothing.
 use mathlib.Core.Path.{_≡_, refl}
 use Rattle.half.specs.Half.{hdrByte}

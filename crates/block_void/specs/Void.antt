@@ -1,4 +1,5 @@
 -- The answer and the colour of a void block, as a word and as samples. v is the block's number of 128 bits.
+-- Written from the ASTC chapter's section "Void-Extent Blocks"; the bytes of halves are the original's own.
 -- Assumes nothing.
 use mathlib.Core.Bool.{cond}
 use Prim.Native.Nat.{ℕ, _+_, _*_}

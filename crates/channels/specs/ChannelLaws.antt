@@ -1,4 +1,4 @@
--- The laws of channels: a float's byte by the fraction that it equals, so that a half's byte is document 01's by both rules, and the bits of a float.
+-- The laws of channels: a float's byte by the fraction that it equals, so that a half's byte is that of docs/SCOPE.md by both rules, and the bits of a float.
 -- Assumes nothing.
 use mathlib.Core.Path.{_≡_, refl, ap, _∙_}
 use mathlib.Core.Bool.{Bool, true, false, cond, not}

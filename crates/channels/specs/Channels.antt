@@ -54,7 +54,7 @@ byteOf n nan = n
 byteOf n (inf s) = 255
 byteOf n (fin s m e) = cond s 0 (min (m * up e * 255 / down e) 255)
 
--- a NaN by document 01's two rules: 255 as an HDR channel, and 0 by `f32_to_u8`
+-- a NaN by the two rules of docs/SCOPE.md: 255 as an HDR channel, and 0 by `f32_to_u8`
 abbrev pub nanByte : Rule → ℕ
 nanByte Ordinary = 255
 nanByte Void = 0

@@ -1,4 +1,4 @@
--- The table of marks, held to document 01: HDR colours are made by the modes 2, 3, 7, 11, 14 and 15, HDR alphas by 2, 3, 7, 11 and 15.
+-- The table of marks, held to docs/SCOPE.md: HDR colours are made by the modes 2, 3, 7, 11, 14 and 15, HDR alphas by 2, 3, 7, 11 and 15.
 -- Assumes nothing.
 use mathlib.Core.Path.{_≡_, refl, sym, subst, ap}
 use mathlib.Core.Bool.{Bool, true, false, cond, false≢true}

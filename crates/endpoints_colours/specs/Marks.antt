@@ -1,4 +1,5 @@
 -- The marks of the sixteen modes: which of them make HDR colours and HDR alphas.
+-- Written from the ASTC chapter's section "Color Endpoint Mode".
 -- Assumes nothing.
 use mathlib.Core.Bool.{Bool, true, false}
 use mathlib.Core.List.{List, [], _∷_}

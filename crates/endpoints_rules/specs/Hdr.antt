@@ -1,4 +1,5 @@
 -- The endpoint modes 2, 3 and 7, of high dynamic range, and what mode 11 shares with 7.
+-- Written from the ASTC chapter's section "HDR Endpoint Decoding".
 -- Assumes nothing.
 use mathlib.Core.Bool.{cond, not}
 use mathlib.Core.List.{List, [], _∷_}

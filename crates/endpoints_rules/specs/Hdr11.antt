@@ -1,4 +1,5 @@
 -- The endpoint modes 11, 14 and 15, of high dynamic range.
+-- Written from the ASTC chapter's section "HDR Endpoint Decoding"; the offsets of mode 11 are read as the original reads them.
 -- Assumes nothing.
 use mathlib.Core.Bool.{cond}
 use mathlib.Core.List.{List, [], _∷_}

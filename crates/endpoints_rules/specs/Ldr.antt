@@ -1,4 +1,5 @@
 -- The endpoint modes of low dynamic range, of the values v0 to v7, which are bytes.
+-- Written from the ASTC chapter's section "LDR Endpoint Decoding".
 -- Assumes nothing.
 use mathlib.Core.Bool.{cond}
 use Prim.Native.Nat.{ℕ, _+_, _*_, _-_, _/_, _%_, min}

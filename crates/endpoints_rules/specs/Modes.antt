@@ -1,4 +1,5 @@
 -- The endpoints of a mode from its values.
+-- Written from the ASTC chapter's sections "LDR Endpoint Decoding" and "HDR Endpoint Decoding".
 -- Assumes nothing.
 use mathlib.Core.List.{List, [], _∷_}
 use Prim.Native.Nat.{ℕ, _+_}

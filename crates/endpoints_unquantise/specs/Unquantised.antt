@@ -1,4 +1,5 @@
 -- The byte that an encoded endpoint value stands for.
+-- Written from the ASTC chapter's section "Endpoint Unquantization".
 -- Assumes nothing.
 use mathlib.Core.Bool.{cond}
 use mathlib.Core.List.{List, []}

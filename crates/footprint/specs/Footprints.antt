@@ -1,4 +1,5 @@
 -- The footprints of blocks.
+-- Written from the ASTC chapter's sections "Block Determination and Bit Rates".
 -- Assumes nothing.
 use mathlib.Core.Bool.{Bool, false, cond, _||_}
 use Prim.Native.Nat.{ℕ, _*_}

@@ -2,8 +2,8 @@
 -- Assumes nothing.
 use mathlib.Core.Path.{_≡_, refl, sym, _∙_}
 use mathlib.Core.Bool.{Bool, true, false, cond, not, _&&_, false≢true}
-use Prim.Native.Nat.{ℕ, _*_, _≤_, _<_}
-use native.Mathlib.Nat.{suc-ne-zero}
+use Prim.Native.Nat.{ℕ, _+_, _-_, _*_, _/_, _≤_, _<_}
+use native.Mathlib.Nat.{suc-ne-zero, mul-le-mul, add-div-left}
 use native.Mathlib.Decide.{decLt}
 use native.Mathlib.Omega.{arith}
 use lib.Dec.{eqb, ltb}
@@ -11,7 +11,7 @@ use borrow.Author.Tests.{eq-eqb, ne-eqb, eqb-true, lt-ltb, le-ltb, le-leb, lt-le
 use Rattle.laws.specs.Numbers.{choice}
 use Rattle.footprint.specs.Footprints.{listed}
 use Rattle.footprint.specs.Sides.{Sides, sides-of}
-use Rattle.image_shape.specs.Shapes.{totalOf, pixelsOf, longestSide, isSide, refusalOf, stepRefusal}
+use Rattle.image_shape.specs.Shapes.{alongOf, totalOf, pixelsOf, longestSide, isSide, refusalOf, stepRefusal}
 use Rattle.image_shape.specs.declared.Shape.{Shape}
 
 -- sides that have pixels, and of which no product leaves a word
@@ -100,6 +100,18 @@ sized-accepted m len room s =
 
 pub sized-bounded : (m : Shape) (len places : ℕ) → Sized m len places → ShapeBounds m
 sized-bounded m len places s = record { width = s .width; height = s .height; sides = sides-of (m .footprint) (s .footprint) }
+
+-- it has a block
+along-least : (n side : ℕ) → 1 ≤ n → 1 ≤ side → 1 ≤ alongOf n side
+along-least n side h k =
+    let e : n + (side - 1) ≡ side + (n - 1) = omega arith in
+    let d : (side + (n - 1)) / side ≡ (n - 1) / side + 1 = add-div-left (n - 1) k in
+    rw e (omega (arith, d))
+
+pub total-least : (m : Shape) → ShapeBounds m → 1 ≤ totalOf m
+total-least m b =
+    let s = b .sides in
+    mul-le-mul (along-least _ _ (b .width .0) (s .column)) (along-least _ _ (b .height .0) (s .row))
 
 -- an output of the same length has the same room
 pub same-sized : (m : Shape) (len p q : ℕ) → Sized m len p → q ≡ p → Sized m len q

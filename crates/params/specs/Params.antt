@@ -1,4 +1,5 @@
 -- A block's parameters. v is the block's number of 128 bits; its bits are read by whole fields alone.
+-- Written from the ASTC chapter's sections "Block Layout", "Color Endpoint Mode" and "Dual-Plane Decoding".
 -- Assumes nothing.
 use mathlib.Core.Bool.{cond}
 use mathlib.Core.List.{[], _∷_}

@@ -1,4 +1,5 @@
 -- What the low configuration says: the number c of a block's bits 0..16, with several partitions 0..28.
+-- Written from the ASTC chapter's sections "Block Mode" and "Color Endpoint Mode".
 -- Assumes nothing.
 use mathlib.Core.Bool.{Bool, cond, _&&_, _||_}
 use Prim.Native.Nat.{ℕ, _+_, _-_, _*_}

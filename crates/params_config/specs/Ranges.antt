@@ -1,4 +1,5 @@
 -- The bits that values of a range take.
+-- Written from the ASTC chapter's section "Integer Sequence Encoding".
 -- Assumes nothing.
 use Prim.Native.Nat.{ℕ}
 use Rattle.sequence_ranges.specs.Ranges.{rangeOf}

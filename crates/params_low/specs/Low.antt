@@ -1,4 +1,5 @@
 -- What the first bits of a block tell. v is the block's number of 128 bits.
+-- Written from the ASTC chapter's sections "Block Mode" and "Void-Extent Blocks".
 -- Assumes nothing.
 use mathlib.Core.Bool.{Bool, cond}
 use Prim.Native.Nat.{ℕ, _+_}

@@ -1,4 +1,5 @@
 -- The map of a block: its answer, where its fields stand, and the largest value of its endpoints' range.
+-- Written from the ASTC chapter's sections "Block Layout" and "Data Size Determination".
 -- Assumes nothing.
 use mathlib.Core.Bool.{cond}
 use Prim.Native.Nat.{ℕ, _-_}

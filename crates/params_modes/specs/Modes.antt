@@ -1,6 +1,7 @@
 -- The endpoint modes of a block's partitions. They stand in the block as a base and a number of mode bits, here `code`.
 -- With base 0 the code is the mode, of 4 bits, of every partition. With base 1, 2 or 3 and p partitions the code has 3p bits:
 -- a bit for each partition, which adds to its class, and then two for each, which are the rest of its mode.
+-- Written from the ASTC chapter's section "Color Endpoint Mode".
 -- Assumes nothing.
 use mathlib.Core.Bool.{cond}
 use mathlib.Core.List.{List, [], _∷_}

@@ -1,4 +1,5 @@
 -- The widest range that has room.
+-- Written from the ASTC chapter's section "Data Size Determination".
 -- Assumes nothing.
 use mathlib.Core.Bool.{cond}
 use Prim.Native.Nat.{ℕ, zero, suc, _+_}

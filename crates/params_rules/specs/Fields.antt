@@ -1,4 +1,5 @@
 -- The whole fields by which a block is judged, and its answer. v is the block's number of 128 bits.
+-- Written from the ASTC chapter's sections "Block Layout" and "Illegal Encodings".
 -- Assumes nothing.
 use mathlib.Core.Bool.{cond}
 use Prim.Native.Nat.{ℕ}

@@ -1,4 +1,5 @@
 -- The rules that a block may break, of what its low configuration says.
+-- Written from the ASTC chapter's section "Illegal Encodings".
 -- Assumes nothing.
 use mathlib.Core.Bool.{cond, _&&_}
 use Prim.Native.Nat.{ℕ, _+_, _-_, _*_, _/_}

@@ -15,7 +15,7 @@ use Rattle.params_config.specs.Config.{isReserved, lacksDH, gridLow, gridHigh, 
 use Rattle.params_rules.specs.Rules.{endVerdict, verdict}
 use Rattle.params_rules.specs.Fields.{fieldsOf, answer}
 
--- P1's block, and with byte 8 set to FF; sixteen zero bytes; P3's block
+-- the block of P1 of docs/SCOPE.md, and with byte 8 set to FF; sixteen zero bytes; P3's block
 unfoldable pub p1 : List ℕ
 p1 = 0x42 ∷ 0 ∷ 0 ∷ 0xfe ∷ 1 ∷ 0 ∷ 0 ∷ 0 ∷ 0 ∷ 0 ∷ 0 ∷ 0 ∷ 0 ∷ 0 ∷ 0 ∷ 0xe0 ∷ []
 

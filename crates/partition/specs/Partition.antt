@@ -1,4 +1,5 @@
 -- The partition of a texel: the largest of up to four ramps over the texels.
+-- Written from the ASTC chapter's section "Partition Pattern Generation".
 -- Assumes nothing.
 use mathlib.Core.Bool.{cond, _&&_}
 use Prim.Native.Nat.{ℕ, _+_, _-_, _*_, _/_, _%_}

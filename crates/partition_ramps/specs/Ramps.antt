@@ -1,4 +1,5 @@
 -- The ramps of a partition number: the standard's hash of a seed, and a ramp over the texels for each partition.
+-- Written from the ASTC chapter's section "Partition Pattern Generation".
 -- Assumes nothing.
 use mathlib.Core.Bool.{cond}
 use Prim.Native.Nat.{ℕ, _+_, _-_, _*_, _/_, _%_, _^_}

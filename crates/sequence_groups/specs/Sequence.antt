@@ -1,4 +1,5 @@
 -- An integer sequence of a range: its groups and its values. The sequence is one number w, whose bits past its size are 0.
+-- Written from the ASTC chapter's section "Integer Sequence Encoding".
 -- Assumes nothing.
 use mathlib.Core.Bool.{cond}
 use mathlib.Core.List.{List, [], _∷_}

@@ -1,4 +1,5 @@
 -- How eight bits hold five trits, and seven bits three quints: the rule of the standard.
+-- Written from the ASTC chapter's section "Integer Sequence Encoding".
 -- Assumes nothing.
 use mathlib.Core.Bool.{cond}
 use mathlib.Core.List.{List, [], _∷_}

@@ -1,4 +1,5 @@
 -- The 21 ranges of the standard, the narrowest first, by their places 0 to 20. Weights use 0 to 11, endpoints 4 to 20.
+-- Written from the ASTC chapter's section "Integer Sequence Encoding".
 -- Assumes nothing.
 use mathlib.Core.List.{List, [], _∷_}
 use Prim.Native.Nat.{ℕ, _+_, _*_, _-_, _/_, _^_}

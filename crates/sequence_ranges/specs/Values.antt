@@ -1,4 +1,4 @@
--- Values of document 01 that concern sequences: the bits of n values, as its rules 13 and 16 count them.
+-- Values of docs/SCOPE.md that concern sequences: the bits of n values, as its rules 13 and 16 count them.
 -- Assumes nothing.
 use mathlib.Core.Path.{_≡_, refl}
 use Rattle.sequence_ranges.specs.Ranges.{ranges, rangeOf, totalOf}

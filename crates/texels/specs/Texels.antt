@@ -1,4 +1,5 @@
 -- The channels of a texel, from its partition's endpoints and its weights, and its word.
+-- Written from the ASTC chapter's sections "Weight Application" and "Dual-Plane Decoding"; the reduction to a byte is the original's own.
 -- Assumes nothing.
 use mathlib.Core.Bool.{cond, _&&_}
 use mathlib.Core.List.{List}

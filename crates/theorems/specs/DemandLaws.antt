@@ -1,4 +1,4 @@
--- Demand 3, proved.
+-- Demand 3 of docs/SCOPE.md, proved.
 -- Assumes nothing.
 use mathlib.Core.Path.{_≡_, refl, sym, ap, _∙_}
 use mathlib.Core.Bool.{cond}
@@ -11,6 +11,8 @@ use lib.ListN.{getD, length}
 use borrow.Author.Tests.{eq-eqb, lt-ltb, le-ltb}
 use Rattle.laws.specs.Lists.{put-same}
 use Rattle.bits.specs.Bits.{bitsAt, bytes}
+use Rattle.params_low.specs.Low.{confLen}
+use Rattle.params_config.specs.Config.{partitionsOf, configOf}
 use Rattle.params_rules.specs.Fields.{fieldsOf, answer}
 use Rattle.params_rules.specs.FieldLaws.{ordinary}
 use Rattle.params_room.specs.RoomLaws.{range-is}
@@ -41,7 +43,7 @@ use Rattle.texels_numbers.specs.Numbers.{fourOf}
 use Rattle.texels_numbers.specs.NumberLaws.{fours-same}
 use Rattle.block_channels.specs.BlockChannels.{blockSamples, roomOf, numbersOf, marksIn}
 use Rattle.block.specs.Block.{wordOfParams, blockWord, wordAt, paintedOf}
-use Rattle.theorems.specs.Demands.{In, WidestRange, channelIn, infilled, endsAt, InBounds}
+use Rattle.theorems.specs.Demands.{In, Stated, WidestRange, channelIn, infilled, endsAt, InBounds}
 
 -- ---- the fields stand one after the other
 module _ (m : BlockMap) (f : InOrder m) where
@@ -85,6 +87,26 @@ range-fits v foot e =
       fits = omega (arith, w .fits);
       widest = λ r x y. omega (arith, w .fits, w .best r x y);
     })
+
+-- ---- starts and lengths
+config-stated : (c : ℕ) (m : BlockMap) → m ≡ legalMap (configOf c) → InOrder m → Stated m (configOf c)
+unfolding legalMap configOf partitionsOf confLen
+config-stated c m e o = record {
+  low-start = o .first;
+  low-length = rw e;
+  ends-start = rw e;
+  extra-length = rw e;
+  extra-end = o .weights;
+  weights-length = rw e;
+  weights-end = o .last;
+}
+
+stated-is : (v : ℕ) (foot : Footprint) → paramsOf v foot .answer ≡ 0 → InOrder (mapOf v foot) → Stated (mapOf v foot) (paramsOf v foot .config)
+unfolding legal
+stated-is v foot e o =
+    let t = fieldsOf v in
+    let a : answer t foot ≡ 0 = sym (answer-is t foot) ∙ e in
+    rw (legal-is t foot a) (config-stated (t .low) (mapOf v foot) (map-legal t foot a) o)
 
 -- ---- LDR channels
 ldr-channel : (m : Mark) (e0 e1 w : ℕ) → m ≡ Ldr → e0 < limit m → e1 < limit m → w ≤ 64 → Between e0 e1 (channelBy m e0 e1 w)
@@ -214,6 +236,7 @@ demand-3 s foot z =
     record {
       within = rw (l .map) (field-within m f);
       disjoint = rw (l .map) (λ i j x a b. field-is m f i x a ∙ sym (field-is m f j x b));
+      stated = rw (l .map) (stated-is v foot a f);
       range = rw (l .map) (range-fits v foot a);
       weights = weights-light p foot k (weightsField p v);
       channels = channels-within s foot a k;

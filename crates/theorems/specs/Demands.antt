@@ -1,12 +1,16 @@
--- Demand 3: a legal block never leaves its bounds, in the terms of the map that is reported. DemandLaws has the proof.
+-- Demand 3 of docs/SCOPE.md: a legal block never leaves its bounds, in the terms of the map that is reported. DemandLaws has the proof.
 -- Assumes nothing.
 use mathlib.Core.Path.{_≡_}
+use mathlib.Core.Bool.{cond}
 use mathlib.Core.List.{List, [], _∷_}
-use Prim.Native.Nat.{ℕ, _+_, _≤_, _<_}
+use Prim.Native.Nat.{ℕ, _+_, _-_, _*_, _≤_, _<_}
+use lib.Dec.{eqb}
 use lib.ListN.{getD, length}
 use Rattle.bits.specs.Bits.{bitsAt, bytes}
 use Rattle.sequence_ranges.specs.Ranges.{topOf}
 use Rattle.params_config.specs.Ranges.{cost}
+use Rattle.params_config.specs.Config.{extraModeBits}
+use Rattle.params_config.specs.declared.Config.{Config}
 use Rattle.params_map.specs.declared.BlockMap.{BlockMap}
 use Rattle.params.specs.Params.{paramsOf, endsField, weightsField}
 use Rattle.params.specs.declared.Params.{Params}
@@ -44,6 +48,20 @@ pub record WidestRange (m : BlockMap) (n q : ℕ) : Type 0 where
   pub fits : m .«end_at» + cost q n ≤ m .«extra_at»
   pub widest : (r : ℕ) → q < r → r ≤ 20 → m .«extra_at» < m .«end_at» + cost r n
 
+-- ---- where each field starts, and how long it is, by what the low configuration k says
+pub record Stated (m : BlockMap) (k : Config) : Type 0 where
+  -- the low configuration: 17 bits with one partition, and else 29
+  pub low-start : m .«low_at» ≡ 0
+  pub low-length : m .«low_len» ≡ cond (eqb (k .parts) 1) 17 29
+  -- the endpoints follow; WidestRange has their length
+  pub ends-start : m .«end_at» ≡ m .«low_len»
+  -- the extra field, directly below the weights: mode bits, and two for the channel of a second plane
+  pub extra-length : m .«extra_len» ≡ extraModeBits (k .parts) (k .base) + 2 * (k .planes - 1)
+  pub extra-end : m .«extra_at» + m .«extra_len» ≡ m .«weight_at»
+  -- the weights, which end at bit 127
+  pub weights-length : m .«weight_len» ≡ cost (k .«weight_range») (k .width * k .height * k .planes)
+  pub weights-end : m .«weight_at» + m .«weight_len» ≡ 128
+
 -- ---- a channel of a word: 0 to 3 for red, green, blue and alpha
 abbrev pub channelIn : ℕ → ℕ → ℕ
 channelIn w c = bitsAt w (getD (16 ∷ 8 ∷ 0 ∷ 24 ∷ []) c 0) 8
@@ -72,6 +90,8 @@ pub record InBounds (s : List ℕ) (foot : Footprint) : Type 0 where
   -- its fields lie within the 128 bits, and share no bit
   pub within : (i k : ℕ) → In (blockMap s foot) i k → k < 128
   pub disjoint : (i j k : ℕ) → In (blockMap s foot) i k → In (blockMap s foot) j k → i ≡ j
+  -- each of them stands where it should, as long as it should be
+  pub stated : Stated (blockMap s foot) (params s foot .config)
   -- its endpoint range is the widest that fits
   pub range : WidestRange (blockMap s foot) (params s foot .config .values) (params s foot .«endpoint_range»)
   -- infilled weights are in 0..64

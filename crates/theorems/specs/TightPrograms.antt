@@ -28,10 +28,10 @@ placed-alike s at t r r′ x y p q = (p .next ∙ sym (q .next), p .line ∙ sym
 pub put-text : (s : List ℕ) (at : ℕ) (text : List ℕ) → TightBoth ℕ (List ℕ) (λ r line. Placed s at text line r)
 put-text = placed-alike
 
-pub put-number : (s : List ℕ) (at n : ℕ) → TightBoth ℕ (List ℕ) (λ r line. Placed s at (decimal n) line r × (r ≤ at + 20))
+pub put-number : (s : List ℕ) (at n : ℕ) → TightBoth ℕ (List ℕ) (λ r line. (Placed s at (decimal n) line r) × (r ≤ at + 20))
 put-number s at n r r′ x y p q = placed-alike s at (decimal n) r r′ x y (p .0) (q .0)
 
-pub lay-out-count : (s label : List ℕ) (count : ℕ) → TightBoth ℕ (List ℕ) (λ r line. Placed s 0 (countLine label count) line r × (r ≤ length s))
+pub lay-out-count : (s label : List ℕ) (count : ℕ) → TightBoth ℕ (List ℕ) (λ r line. (Placed s 0 (countLine label count) line r) × (r ≤ length s))
 lay-out-count s label count r r′ x y p q = placed-alike s 0 (countLine label count) r r′ x y (p .0) (q .0)
 
 pub print-count : (label : List ℕ) (count : ℕ) → Tight ℕ (λ r. r ≡ length (countLine label count))
@@ -45,7 +45,7 @@ pub differs : (w : Came) (blocks bad found : ℕ) → Tight Bool (λ r. r ≡ di
 differs w blocks bad found = one Bool (differsFrom w blocks bad found)
 
 -- ---- the line of a listed block
-pub lay-out : (s : List ℕ) (number answer word : ℕ) → TightBoth ℕ (List ℕ) (λ r line. Placed s 0 (lineOf number answer word) line r × (r ≤ 126))
+pub lay-out : (s : List ℕ) (number answer word : ℕ) → TightBoth ℕ (List ℕ) (λ r line. (Placed s 0 (lineOf number answer word) line r) × (r ≤ 126))
 lay-out s number answer word r r′ x y p q = placed-alike s 0 (lineOf number answer word) r r′ x y (p .0) (q .0)
 
 -- ---- stored records

@@ -1,4 +1,4 @@
--- Document 01's table of values, P1 to P12, in one statement. Each is computed from the definitions, those of a layer in that layer.
+-- The values P1 to P12 of docs/SCOPE.md, in one statement. Each is computed from the definitions, those of a layer in that layer.
 -- Assumes nothing.
 use mathlib.Core.Path.{_≡_, refl}
 use mathlib.Core.List.{List, [], _∷_}

@@ -1,4 +1,5 @@
 -- The weights of a footprint's texels from the encoded weights of its grid. A value past the end of the sequence is 0, and stands for the weight 0.
+-- Written from the ASTC chapter's sections "Weight Decoding" and "Dual-Plane Decoding".
 -- Assumes nothing.
 use mathlib.Core.List.{List}
 use Prim.Native.Nat.{ℕ}

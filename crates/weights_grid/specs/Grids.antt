@@ -1,4 +1,5 @@
 -- A grid of weights, and where the texels of its footprint lie between its points.
+-- Written from the ASTC chapter's section "Weight Infill".
 -- Assumes nothing.
 use Prim.Native.Nat.{ℕ, _*_, _/_, _≤_, _+_, _-_}
 use Rattle.weights_grid.specs.declared.Grid.{Grid}

@@ -1,4 +1,5 @@
 -- The weights of a footprint's texels, made of its grid's: the standard's infill.
+-- Written from the ASTC chapter's section "Weight Infill".
 -- Assumes nothing.
 use mathlib.Core.Bool.{_&&_, cond}
 use mathlib.Core.List.{List, [], _∷_}

@@ -1,4 +1,5 @@
 -- The weight that an encoded value stands for, 0 to 64: the standard's unquantisation of weights.
+-- Written from the ASTC chapter's section "Weight Unquantization".
 -- Assumes nothing.
 use mathlib.Core.Bool.{cond}
 use mathlib.Core.List.{List, [], _∷_}

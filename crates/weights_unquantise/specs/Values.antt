@@ -1,4 +1,4 @@
--- Values that the definitions are held to: document 01's P5 and P6, and the weights of all ranges with trits or quints, as the
+-- Values that the definitions are held to: P5 and P6 of docs/SCOPE.md, and the weights of all ranges with trits or quints, as the
 -- original computes them. Each is computed.
 -- Assumes nothing.
 use mathlib.Core.Path.{_≡_, refl}

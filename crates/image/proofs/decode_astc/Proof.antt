@@ -1,5 +1,5 @@
 -- `image::decode_astc` is refused, or paints all blocks. Assumes nothing.
-use Rattle.image_shape.specs.ShapeLaws.{accepted, sized-bounded}
+use Rattle.image_shape.specs.ShapeLaws.{accepted, sized-bounded, total-least}
 use Rattle.image.specs.StepLaws.{image-refused, image-painted}
 use native.Mathlib.Omega.{arith}
 use mathlib.Core.Path.{sym, _∙_}
@@ -20,7 +20,8 @@ paint-blocks-requires : tie.Need-paint-blocks-requires
 paint-blocks-requires c κs =
     let at-if1 = c .before .before in
     let after-refusal = at-if1 .before in
-    (accepted _ _ _ (sym (after-refusal .refusal .ensures) ∙ at-if1 .if1 .left), (omega arith, omega (arith, c .before .total .ensures .0)))
+    let sized = accepted _ _ _ (sym (after-refusal .refusal .ensures) ∙ at-if1 .if1 .left) in
+    (sized, (omega (arith, total-least _ (sized-bounded _ _ _ sized), c .before .total .ensures .0), omega (arith, c .before .total .ensures .0)))
 
 same-length : tie.Need-same-length
 same-length c = search needs
