@@ -21,7 +21,7 @@ use Rattle.params_map.specs.Map.{legalMap, noMap, mapOf}
 use Rattle.params_map.specs.MapLaws.{InOrder, map-answer as answer-mapped, map-legal, map-none, in-order}
 use Rattle.params_map.specs.declared.BlockMap.{BlockMap}
 use Rattle.block_refusal.specs.Refusal.{firstRefusal, blockRefusal}
-use Rattle.block_refusal.specs.RefusalLaws.{out-first, accepted, passes, refusal-small}
+use Rattle.block_refusal.specs.RefusalLaws.{out-first, accepted, not-refused, refusal-small}
 use Rattle.block_map.specs.Answer.{answerOf, mapAnswer, blockMap}
 
 -- ---- the answer of a call that is refused, and of one that is not
@@ -53,7 +53,7 @@ module _ (s : List ℕ) (foot : Footprint) where
 
   pub map-answer : length s ≡ 16 → listed foot ≡ true → mapAnswer s foot ≡ answer (fieldsOf (bytes 16 s)) foot
   unfolding mapAnswer
-  map-answer h l = answer-accepted s foot (texelsOf foot) (passes (length s) foot (texelsOf foot) (record { sixteen = h; listed = l; room = omega arith }))
+  map-answer h l = answer-accepted s foot (texelsOf foot) (not-refused (length s) foot (texelsOf foot) (record { sixteen = h; listed = l; room = omega arith }))
 
   pub map-block : (v : ℕ) (m : BlockMap) → length s ≡ 16 → listed foot ≡ true → v ≡ bytes 16 s → m ≡ mapOf v foot → m ≡ blockMap s foot
   unfolding blockMap

@@ -27,10 +27,10 @@ module _ (len : ℕ) (foot : Footprint) where
   unfolding firstRefusal
   first-0 e l = rw (eq-eqb len 16 e, l)
 
-  -- 0 says all
-  pub given : firstRefusal len foot ≡ 0 → (len ≡ 16) × (listed foot ≡ true)
+  -- where it is 0, each check holds
+  pub first-accepted : firstRefusal len foot ≡ 0 → (len ≡ 16) × (listed foot ≡ true)
   unfolding firstRefusal
-  given e = go (eqb len 16) (listed foot) refl refl e
+  first-accepted e = go (eqb len 16) (listed foot) refl refl e
     where
       go : (t u : Bool) → eqb len 16 ≡ t → listed foot ≡ u → _≡_ {A = ℕ} (cond (not t) 20 (cond (not u) 21 0)) 0 → (len ≡ 16) × (listed foot ≡ true)
       go false u et eu x = absurd (suc-ne-zero 19 x)
@@ -70,7 +70,7 @@ module _ (len : ℕ) (foot : Footprint) (room : ℕ) where
   unfolding blockRefusal
   out-0 z r = rw (z, le-ltb room (texelsOf foot) r)
 
-  -- 0 says all
+  -- where it is 0, each check holds
   pub accepted : blockRefusal len foot room ≡ 0 → Accepted len foot room
   unfolding blockRefusal
   accepted e = go (eqb (firstRefusal len foot) 0) (decLt room (texelsOf foot)) refl e
@@ -80,11 +80,11 @@ module _ (len : ℕ) (foot : Footprint) (room : ℕ) where
       go false r et x = absurd (false≢true (sym et ∙ eq-eqb (firstRefusal len foot) 0 x))
       go true (yes r) et x = absurd (suc-ne-zero 21 (rw (lt-ltb room (texelsOf foot) r) at x))
       go true (no r) et x =
-          let g = given len foot (eqb-true (firstRefusal len foot) 0 et) in
+          let g = first-accepted len foot (eqb-true (firstRefusal len foot) 0 et) in
           record { sixteen = g .0; listed = g .1; room = omega arith }
 
-  pub passes : Accepted len foot room → blockRefusal len foot room ≡ 0
-  passes a = sym (out-0 (sym (first-0 len foot (a .sixteen) (a .listed))) (a .room))
+  pub not-refused : Accepted len foot room → blockRefusal len foot room ≡ 0
+  not-refused a = sym (out-0 (sym (first-0 len foot (a .sixteen) (a .listed))) (a .room))
 
   -- refusals are 20 and above, and no answer is above them
   pub refusal-large : (blockRefusal len foot room ≡ 0 → ⊥) → 20 ≤ blockRefusal len foot room
@@ -119,16 +119,16 @@ module _ (len : ℕ) (foot : Footprint) (t : ℕ) where
   unfolding texelRefusal
   texel-32 z h = rw (z, le-ltb t (texelsOf foot) h)
 
-  -- 0 says all
-  pub texel-given : texelRefusal len foot t ≡ 0 → (len ≡ 16) × (listed foot ≡ true) × (t < texelsOf foot)
+  -- where it is 0, each check holds
+  pub texel-accepted : texelRefusal len foot t ≡ 0 → (len ≡ 16) × (listed foot ≡ true) × (t < texelsOf foot)
   unfolding texelRefusal
-  texel-given e = go (eqb (firstRefusal len foot) 0) (decLt t (texelsOf foot)) refl e
+  texel-accepted e = go (eqb (firstRefusal len foot) 0) (decLt t (texelsOf foot)) refl e
     where
       go : (u : Bool) → Dec (t < texelsOf foot) → eqb (firstRefusal len foot) 0 ≡ u → cond u (cond (ltb t (texelsOf foot)) 0 32) (firstRefusal len foot) ≡ 0
           → (len ≡ 16) × (listed foot ≡ true) × (t < texelsOf foot)
       go false h eu x = absurd (false≢true (sym eu ∙ eq-eqb (firstRefusal len foot) 0 x))
       go true (no h) eu x = absurd (suc-ne-zero 31 (rw (le-ltb t (texelsOf foot) (omega arith)) at x))
-      go true (yes h) eu x = let g = given len foot (eqb-true (firstRefusal len foot) 0 eu) in (g .0, g .1, h)
+      go true (yes h) eu x = let g = first-accepted len foot (eqb-true (firstRefusal len foot) 0 eu) in (g .0, g .1, h)
 
-  pub texel-passes : len ≡ 16 → listed foot ≡ true → t < texelsOf foot → texelRefusal len foot t ≡ 0
-  texel-passes e l h = sym (texel-0 (sym (first-0 len foot e l)) h)
+  pub texel-not-refused : len ≡ 16 → listed foot ≡ true → t < texelsOf foot → texelRefusal len foot t ≡ 0
+  texel-not-refused e l h = sym (texel-0 (sym (first-0 len foot e l)) h)

@@ -40,7 +40,7 @@ weightAt weights planes channel i k = getD weights (mostTexels * planeOf planes 
 abbrev pub blendedOf : Endpoints → ℕ → ℕ → Blended
 blendedOf e k w = record { mark = markOf e k; value = blendBy (markOf e k) (firstOf e k) (secondOf e k) w }
 
--- channel k of texel i. The partitions has each texel's partition
+-- channel k of texel i; partitions has the partition of each texel
 abbrev pub blendedAt : List Endpoints → List ℕ → List ℕ → ℕ → ℕ → ℕ → ℕ → Blended
 blendedAt ends weights partitions planes channel i k = blendedOf (getD ends (getD partitions i 0) nothing) k (weightAt weights planes channel i k)
 

@@ -21,7 +21,7 @@ use Rattle.params_rules.specs.FieldLaws.{answer-void, told-reserved}
 use Rattle.params.specs.Params.{paramsOf}
 use Rattle.params.specs.Laws.{answer-is}
 use Rattle.block_void.specs.Void.{voidWord}
-use Rattle.block_refusal.specs.RefusalLaws.{Accepted, passes}
+use Rattle.block_refusal.specs.RefusalLaws.{Accepted, not-refused}
 use Rattle.block_map.specs.Answer.{answerOf}
 use Rattle.block_map.specs.AnswerLaws.{answer-accepted}
 use Rattle.block.specs.Block.{magenta, colourOf, wordOfParams, blockWord, wordAt, paintedOf}
@@ -61,7 +61,7 @@ reserved-is v r =
 -- ---- one colour
 module _ (s : List ℕ) (foot : Footprint) (out : List ℕ) (h : Accepted (length s) foot (length out)) where
   answer-in : answerOf s foot (length out) ≡ answer (fieldsOf (bytes 16 s)) foot
-  answer-in = answer-accepted s foot (length out) (passes (length s) foot (length out) h)
+  answer-in = answer-accepted s foot (length out) (not-refused (length s) foot (length out) h)
 
   -- a block that is not legal has one word, which its answer tells
   one-colour : (a : ℕ) → answer (fieldsOf (bytes 16 s)) foot ≡ a → (a ≡ 0 → ⊥) → a < 20 → OneColour s foot out a (colourOf a (bytes 16 s))

@@ -45,7 +45,7 @@ use Rattle.block_ordinary.specs.Ordinary.{ordinaryWord, ordinarySample}
 use Rattle.block_ordinary.specs.Facts.{Facts, ready}
 use Rattle.block_ordinary.specs.Parts.{ends-within, weights-light}
 use Rattle.block.specs.Block.{magenta, colourOf, wordOfParams, blockWord, wordAt}
-use Rattle.block_refusal.specs.RefusalLaws.{texel-passes}
+use Rattle.block_refusal.specs.RefusalLaws.{texel-not-refused}
 use Rattle.block_channels.specs.BlockChannels.{magentaSamples, samplesBy, ordinarySamples, blockSamples, texelAnswered}
 
 -- ---- what is stated
@@ -133,7 +133,7 @@ reduced-word v foot t l = rw (← (answer-is (fieldsOf v) foot)) (go (ℕ-discre
 pub word-reduces : (s : List ℕ) (foot : Footprint) (t : ℕ) → length s ≡ 16 → listed foot ≡ true → t < texelsOf foot
     → wordAt s foot t ≡ wordFrom (ruleOf (texelAnswered s foot t .answer)) (texelAnswered s foot t .texel)
 unfolding wordAt texelAnswered
-word-reduces s foot t h l b = rw (texel-passes (length s) foot t h l b) (reduced-word (bytes 16 s) foot t l)
+word-reduces s foot t h l b = rw (texel-not-refused (length s) foot t h l b) (reduced-word (bytes 16 s) foot t l)
 
 -- ---- numbers and marks
 -- of a sample whose half is a pattern of 16 bits

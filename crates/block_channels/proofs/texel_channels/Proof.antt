@@ -1,6 +1,6 @@
 -- `block_channels::texel_channels` meets its contract: a call is refused by its checks, or the texel is decoded. Assumes nothing.
 use mathlib.Core.Path.{sym, _∙_}
-use Rattle.block_refusal.specs.RefusalLaws.{texel-given}
+use Rattle.block_refusal.specs.RefusalLaws.{texel-accepted}
 use Rattle.block_channels.specs.ChannelLaws.{texel-refused, texel-told}
 use borrow.Author.Needs.{needs}
 use Rattle.block_channels.proofs.texel_channels.Statement.{statement}
@@ -16,7 +16,7 @@ returns : tie.Need-returns
 returns c = c .refused .ensures ∙ texel-refused _ _ _ _ (c .before .before .texel-refusal .ensures) (c .before .if1 .taken)
 
 texel-at-requires : tie.Need-texel-at-requires
-texel-at-requires c κs = texel-given _ _ _ (sym (c .before .texel-refusal .ensures) ∙ c .if1 .left)
+texel-at-requires c κs = texel-accepted _ _ _ (sym (c .before .texel-refusal .ensures) ∙ c .if1 .left)
 
 returns-2 : tie.Need-returns-2
 returns-2 c = texel-told _ _ _ _ (sym (c .before .before .texel-refusal .ensures) ∙ c .before .if1 .left) (c .texel-at .ensures)

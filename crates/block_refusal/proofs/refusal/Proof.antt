@@ -1,5 +1,5 @@
 -- `block_refusal::refusal` meets its contract: each way out is a law of RefusalLaws. Assumes nothing.
-use Rattle.block_refusal.specs.RefusalLaws.{given, out-first, out-22, out-0}
+use Rattle.block_refusal.specs.RefusalLaws.{first-accepted, out-first, out-22, out-0}
 use Rattle.footprint.specs.Sides.{sides-of}
 use native.Mathlib.Omega.{arith}
 use mathlib.Core.Path.{sym, _∙_}
@@ -14,7 +14,7 @@ returns : tie.Need-returns
 returns c = out-first _ _ _ _ (c .before .first-refusal .ensures) (c .if1 .taken)
 
 mul-if2 : tie.Need-mul-if2
-mul-if2 c = omega (arith, sides-of _ (given _ _ (sym (c .before .before .first-refusal .ensures) ∙ c .before .if1 .left) .1) .texels)
+mul-if2 c = omega (arith, sides-of _ (first-accepted _ _ (sym (c .before .before .first-refusal .ensures) ∙ c .before .if1 .left) .1) .texels)
 
 returns-2 : tie.Need-returns-2
 returns-2 c =
