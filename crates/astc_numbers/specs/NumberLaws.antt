@@ -6,7 +6,7 @@ use mathlib.Core.Bool.{Bool, true, false, cond}
 use Prim.Native.Nat.{ℕ, _≤_, _<_}
 use native.Mathlib.Omega.{arith}
 use lib.Dec.{ltb}
-use lib.ListN.{getD, length, set}
+use lib.ListN.{getD, length, set, length-set}
 use borrow.Author.Tests.{lt-ltb, le-ltb}
 use Rattle.laws.specs.Lists.{put, put-first, put-turn}
 use Rattle.laws.specs.Numbers.{choice}
@@ -37,7 +37,11 @@ map-answer-small s foot room =
     let l : blockMap s foot .answer < 23 = map-small s foot .answer in
     choice (ltb (blockMap s foot .answer) 20) _ _ (choice (ltb room 9) 22 _ (omega arith) l) l
 
--- ---- what three stores leave
+-- ---- what stores leave
+-- the length, whatever is stored
+pub second-place : (s : List ℕ) (x : ℕ) → 3 ≤ length s → 1 < length (set s 0 x)
+second-place s x h = omega (arith, length-set s 0 x)
+
 pub three-stores : (next painted bad : ℕ) (moved : List ℕ) → set (set (set moved 0 next) 1 painted) 2 bad ≡ put (λ (k : ℕ). getD (ledTo next painted bad) k 0) 0 3 moved
 unfolding ledTo
 three-stores next painted bad moved =

@@ -1,6 +1,7 @@
 -- `astc_numbers::put_map`: each way out is a law of NumberLaws, and the map's numbers are small. Assumes nothing.
 use Rattle.block_map.specs.AnswerLaws.{map-small}
 use Rattle.astc_numbers.specs.NumberLaws.{refused, no-room, written}
+use native.Mathlib.Omega.{arith}
 use borrow.Author.Needs.{needs}
 use Rattle.astc_numbers.proofs.put_map.Statement.{statement}
 use Rattle.astc_numbers.proofs.put_map.Tie as tie
@@ -14,7 +15,7 @@ returns c = refused _ _ (c .before .before .block-map .ensures) _ (c .if1 .taken
 returns-2 : tie.Need-returns-2
 returns-2 c =
     let after-block-map = c .before .before .before in
-    no-room _ _ (after-block-map .block-map .ensures) _ (c .before .if1 .left) (c .if2 .taken)
+    no-room _ _ (after-block-map .block-map .ensures) _ (c .before .if1 .left) (omega (arith, c .if2 .taken))
 
 numbers-of-requires : tie.Need-numbers-of-requires
 numbers-of-requires c κs =

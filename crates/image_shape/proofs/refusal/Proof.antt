@@ -1,4 +1,4 @@
--- Each way out is a law of ImageLaws.
+-- `image_shape::refusal` meets its contract: each way out is a law of ShapeLaws. Assumes nothing.
 use Rattle.image_shape.specs.ShapeLaws.{bounded-of, out-21, out-wide, out-high, out-31, out-22, out-0}
 use Rattle.image_shape.specs.ShapeLaws.{ShapeBounds}
 use native.Mathlib.Nat.{mul-le-mul}
@@ -18,7 +18,12 @@ is-side-requires-2 : tie.Need-is-side-requires-2
 is-side-requires-2 c κs = search needs
 
 total-requires : tie.Need-total-requires
-total-requires c κs = let t = c in bounded-of _ (sym (t .before .before .before .before .before .is-listed .ensures) ∙ t .before .before .before .before .if1 .taken) (sym (t .before .before .before .is-side .ensures) ∙ t .before .before .if2 .taken) (sym (t .before .is-side2 .ensures) ∙ t .if3 .taken)
+total-requires c κs =
+    let at-if2 = c .before .before in
+    let after-is-side = at-if2 .before in
+    let at-if1 = after-is-side .before in
+    let after-is-listed = at-if1 .before in
+    bounded-of _ (sym (after-is-listed .is-listed .ensures) ∙ at-if1 .if1 .taken) (sym (after-is-side .is-side .ensures) ∙ at-if2 .if2 .taken) (sym (c .before .is-side2 .ensures) ∙ c .if3 .taken)
 
 mul-if4 : tie.Need-mul-if4
 mul-if4 c = search needs
@@ -35,7 +40,8 @@ returns c =
 
 mul-if5 : tie.Need-mul-if5
 mul-if5 c =
-    let at-if3 = c .before .before .before in
+    let station-3 = c .before .before .before in
+    let at-if3 = station-3 in
     let after-is-side2 = at-if3 .before in
     let at-if2 = after-is-side2 .before in
     let after-is-side = at-if2 .before in
