@@ -114,6 +114,10 @@ words-lt hi lo h l = digits-lt {q = hi} {m = 2 ^ 64} {r = lo} {c = 2 ^ 64} h l
 pub bits-longer : (v s m n : ℕ) → v < 2 ^ m → m ≤ n → bitsAt v s n ≡ bitsAt v s m
 bits-longer v s m n h l = bits-shr v s n (lt-of-lt-of-le h (pow-mono l)) ∙ sym (bits-shr v s m h)
 
+-- two words shifted together fit in one, whichever they are
+pub both-fit : (hi lo s t : ℕ) → s + t ≡ 64 → lo < 2 ^ 64 → lo / 2 ^ s + hi * 2 ^ t % 2 ^ 64 < 2 ^ 64
+both-fit hi lo s t e h = rw (← (both-words hi lo s t e h)) (bits-lt (hi * 2 ^ 64 + lo) s 64)
+
 -- a number without its low bits, word by word
 pub skipped : (hi lo n t : ℕ) → n + t ≡ 64 → lo < 2 ^ 64 → hi / 2 ^ n * 2 ^ 64 + (lo / 2 ^ n + hi * 2 ^ t % 2 ^ 64) ≡ (hi * 2 ^ 64 + lo) / 2 ^ n
 unfolding bitsAt

@@ -68,6 +68,13 @@ raised q = omega arith
 pub ret-infinite : (b : ℕ) → b % 2147483648 ≡ 0x7f80_0000 → _≡_ {A = ℕ} 255 (byteOf 0 (ofBits binary32 b))
 ret-infinite b e = sym (rw (bits-are b) (infinite (leb 2147483648 b) (field b) (digits b) (omega arith) (omega arith)))
 
+-- 32 bits that are shifted down by 24 or more are a byte
+pub shift-lt : (y s : ℕ) → y < 256 * 2 ^ 24 → 24 ≤ s → y / 2 ^ s < 256
+shift-lt y s q l =
+    let one : 256 ≤ 256 = omega arith in
+    let p : 256 * 2 ^ 24 ≤ 256 * 2 ^ s = mul-le-mul one (pow-mono {i = 24} l) in
+    div-lt-iff-lt-mul (pow-pos s) .1 (lt-of-lt-of-le q p)
+
 module _ (b : ℕ) (n : field b ≡ 255 → ⊥) where
   pub ret-minus : 2147483648 ≤ b → _≡_ {A = ℕ} 0 (byteOf 0 (ofBits binary32 b))
   ret-minus h = sym (byte-is b n ∙ rw (le-leb 2147483648 b h))
@@ -105,12 +112,8 @@ module _ (b : ℕ) (n : field b ≡ 255 → ⊥) where
     same : field b ≡ b / 8388608
     same = omega arith
 
-    pub shifted-lt : shifted < 256
-    shifted-lt =
-        let one : 256 ≤ 256 = omega arith in
-        let q : 255 * (8388608 + b % 8388608) < 256 * 2 ^ 24 = omega arith in
-        let p : 256 * 2 ^ 24 ≤ 256 * 2 ^ (150 - b / 8388608) = mul-le-mul one (pow-mono {i = 24} (omega arith)) in
-        div-lt-iff-lt-mul (pow-pos (150 - b / 8388608)) .1 (lt-of-lt-of-le q p)
+    shifted-lt : shifted < 256
+    shifted-lt = shift-lt _ (150 - b / 8388608) (omega arith) (omega arith)
 
     pub ret-shifted : shifted ≡ byteOf 0 (ofBits binary32 b)
     ret-shifted =

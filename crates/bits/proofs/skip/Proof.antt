@@ -1,9 +1,7 @@
 -- Word by word, as the law `skipped` has it.
-use mathlib.Core.Path.{subst}
-use Prim.Native.Nat.{ℕ, _-_, _^_, _<_}
+use Prim.Native.Nat.{_-_}
 use native.Mathlib.Omega.{arith}
-use Rattle.bits.specs.BitLaws.{skipped, bits-lt, both-words}
-use Rattle.bits.specs.Blocks.{valueOf}
+use Rattle.bits.specs.BitLaws.{skipped, both-fit}
 use borrow.Author.Needs.{needs}
 use Rattle.bits.proofs.skip.Statement.{statement}
 use Rattle.bits.proofs.skip.Tie as tie
@@ -18,8 +16,9 @@ shl-t7 : tie.Need-shl-t7
 shl-t7 c = search needs
 
 add-t8 : tie.Need-add-t8
-add-t8 c = let a = c .before .before .args in
-    record { fits = subst (λ (n : ℕ). n < 2 ^ 64) (both-words (a .b .hi) (a .b .lo) (a .n) (64 - a .n) (omega arith) (omega arith)) (bits-lt (valueOf (a .b)) (a .n) 64) }
+add-t8 c =
+    let a = c .before .before .args in
+    record { fits = both-fit _ _ (a .n) (64 - a .n) (omega arith) (omega arith) }
 
 shr-t10 : tie.Need-shr-t10
 shr-t10 c = search needs

@@ -10,16 +10,16 @@ sub-v : tie.Need-sub-v
 sub-v c = search needs
 
 mul-v : tie.Need-mul-v
-mul-v c = omega (arith, shares-most (c .args .v0) (c .args .v1) (c .args .weight) (c .pre .1 .1))
+mul-v c = omega (arith, shares-most (c .args .v0) (c .args .v1) (c .args .weight) (c .pre .1 .1), shares-most (c .args .v1) (c .args .v0) (c .args .weight) (c .pre .1 .1))
 
 mul-v-2 : tie.Need-mul-v-2
-mul-v-2 c = omega (arith, shares-most (c .args .v0) (c .args .v1) (c .args .weight) (c .pre .1 .1))
+mul-v-2 c = omega (arith, shares-most (c .args .v0) (c .args .v1) (c .args .weight) (c .pre .1 .1), shares-most (c .args .v1) (c .args .v0) (c .args .weight) (c .pre .1 .1))
 
 add-v : tie.Need-add-v
-add-v c = omega (arith, shares-most (c .args .v0) (c .args .v1) (c .args .weight) (c .pre .1 .1))
+add-v c = omega (arith, shares-most (c .args .v0) (c .args .v1) (c .args .weight) (c .pre .1 .1), shares-most (c .args .v1) (c .args .v0) (c .args .weight) (c .pre .1 .1))
 
 add-result : tie.Need-add-result
-add-result c = omega (arith, shares-most (c .args .v0) (c .args .v1) (c .args .weight) (c .pre .1 .1))
+add-result c = omega (arith, shares-most (c .args .v0) (c .args .v1) (c .args .weight) (c .pre .1 .1), shares-most (c .args .v1) (c .args .v0) (c .args .weight) (c .pre .1 .1))
 
 sub-result : tie.Need-sub-result
 sub-result c = search needs

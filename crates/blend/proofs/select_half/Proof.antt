@@ -9,19 +9,19 @@ sub-hdr-half : tie.Need-sub-hdr-half
 sub-hdr-half c = search needs
 
 mul-hdr-half : tie.Need-mul-hdr-half
-mul-hdr-half c = omega (arith, shares-most (c .args .v0) (c .args .v1) (c .args .weight) (c .pre .1 .1))
+mul-hdr-half c = omega (arith, shares-most (c .args .v0) (c .args .v1) (c .args .weight) (c .pre .1 .1), shares-most (c .args .v1) (c .args .v0) (c .args .weight) (c .pre .1 .1))
 
 mul-hdr-half-2 : tie.Need-mul-hdr-half-2
-mul-hdr-half-2 c = omega (arith, shares-most (c .args .v0) (c .args .v1) (c .args .weight) (c .pre .1 .1))
+mul-hdr-half-2 c = omega (arith, shares-most (c .args .v0) (c .args .v1) (c .args .weight) (c .pre .1 .1), shares-most (c .args .v1) (c .args .v0) (c .args .weight) (c .pre .1 .1))
 
 add-hdr-half : tie.Need-add-hdr-half
-add-hdr-half c = omega (arith, shares-most (c .args .v0) (c .args .v1) (c .args .weight) (c .pre .1 .1))
+add-hdr-half c = omega (arith, shares-most (c .args .v0) (c .args .v1) (c .args .weight) (c .pre .1 .1), shares-most (c .args .v1) (c .args .v0) (c .args .weight) (c .pre .1 .1))
 
 add-hdr-half-2 : tie.Need-add-hdr-half-2
-add-hdr-half-2 c = omega (arith, shares-most (c .args .v0) (c .args .v1) (c .args .weight) (c .pre .1 .1))
+add-hdr-half-2 c = omega (arith, shares-most (c .args .v0) (c .args .v1) (c .args .weight) (c .pre .1 .1), shares-most (c .args .v1) (c .args .v0) (c .args .weight) (c .pre .1 .1))
 
 hdr-half-requires : tie.Need-hdr-half-requires
-hdr-half-requires c κs = omega (arith, shares-most (c .args .v0) (c .args .v1) (c .args .weight) (c .pre .1 .1))
+hdr-half-requires c κs = omega (arith, shares-most (c .args .v0) (c .args .v1) (c .args .weight) (c .pre .1 .1), shares-most (c .args .v1) (c .args .v0) (c .args .weight) (c .pre .1 .1))
 
 returns : tie.Need-returns
 returns c = hdr-half-is _ _ _ _ (c .before .pre .0) (c .before .pre .1 .0) (c .before .pre .1 .1) (c .hdr-half .ensures)

@@ -1,7 +1,8 @@
 -- `channels::pattern_byte` meets its contract: each way out is a law of Patterns. Assumes nothing.
+use Prim.Native.Nat.{_-_, _/_, _<_}
 use native.Mathlib.Omega.{arith}
 use borrow.Author.Needs.{needs}
-use Rattle.channels.proofs.Patterns.{finite-field, ret-infinite, ret-minus, ret-one, ret-none, shifted-lt, ret-shifted}
+use Rattle.channels.proofs.Patterns.{finite-field, ret-infinite, ret-minus, ret-one, ret-none, shift-lt, ret-shifted}
 use Rattle.channels.proofs.pattern_byte.Statement.{statement}
 use Rattle.channels.proofs.pattern_byte.Tie as tie
 
@@ -21,8 +22,8 @@ cast-result : tie.Need-cast-result
 cast-result c =
     let at-if1 = c .before .before .before in
     let at-start = at-if1 .before in
-    let n = finite-field _ (at-start .pre) (at-if1 .if1 .left) in
-    record { fits = shifted-lt _ n (omega (arith, c .before .if3 .left)) (omega (arith, c .if4 .left)) }
+    let below : at-start .args .b < 0x3f80_0000 = omega (arith, c .before .if3 .left) in
+    record { fits = shift-lt _ (150 - at-start .args .b / 8388608) (omega arith) (omega (arith, below)) }
 
 returns : tie.Need-returns
 returns c = ret-infinite _ (c .if1 .taken)

@@ -4,9 +4,10 @@ use Rattle.image_window.specs.Windows.{blockAt, windowOf, rowsPut, RowsF
 use Rattle.image_window.specs.Places.{block-lt, window-fits}
 use Rattle.image_window.specs.MarkLaws.{window-painted}
 use Rattle.image_window.specs.declared.Window.{Window}
-use Prim.Native.Nat.{ℕ, _+_}
+use Prim.Native.Nat.{ℕ, _+_, _≤_}
 use mathlib.Core.List.{List}
 use mathlib.Core.Path.{_≡_, refl}
+use native.Mathlib.Omega.{arith}
 use borrow.Author.Needs.{needs}
 use Rattle.image_window.proofs.fill_block.Statement.{statement}
 use Rattle.image_window.proofs.fill_block.Tie as tie
@@ -17,6 +18,10 @@ block s = blockAt (s .args .m) (s .args .x) (s .args .y)
 module _ (s : tie.Start) (w : Window) (n : ℕ) (e : w ≡ windowOf (s .args .m) (block s)) (k : w .columns ≡ n) where
   fits : RowsFit (w .at) (s .args .m .width) n (w .rows) (length (s .args .out .now))
   fits = let p = s .pre in window-fits _ (p .0) _ (block-lt _ _ _ (p .1 .0)) w n e k _ (p .1 .1)
+
+  -- and so do fewer columns
+  fewer : (k : ℕ) → k ≤ n → RowsFit (w .at) (s .args .m .width) k (w .rows) (length (s .args .out .now))
+  fewer k l r h = omega (arith, fits r h)
 
   painted : (t : List ℕ) → t ≡ rowsPut (λ (y x : ℕ). s .args .word) (w .at) (s .args .m .width) n (w .rows) (s .args .out .now)
       → t ≡ marked (isIn (s .args .m) (block s) (block s + 1)) (λ (k : ℕ). s .args .word) (s .args .out .now)
@@ -59,7 +64,7 @@ fill-rows-requires-6 : tie.Need-fill-rows-requires-6
 fill-rows-requires-6 c κs =
     let after-window-of = c .before .before in
     let at-start = after-window-of .before .before in
-    fits at-start _ _ (after-window-of .window-of .ensures) (c .before .match .keys6)
+    fewer at-start _ _ (after-window-of .window-of .ensures) (c .before .match .keys6) _ (omega arith)
 
 fill-rows-requires-7 : tie.Need-fill-rows-requires-7
 fill-rows-requires-7 c κs =

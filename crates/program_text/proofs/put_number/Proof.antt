@@ -20,7 +20,7 @@ put-text-requires c κs =
     let after-decimal = c .before .before in
     let after-fits = after-decimal .before .before .before in
     let d = after-decimal .decimal in
-    omega (arith, d .ensures .0 .1, fewest-most (d .result) _ (after-fits .fits .n .fits) (d .ensures .1 .0))
+    omega (arith, d .ensures .0 .1, fewest-most (d .result) _ (omega (arith, after-fits .fits .n .fits)) (d .ensures .1 .0))
 
 same-length : tie.Need-same-length
 same-length c = search needs

@@ -100,7 +100,7 @@ pair-requires-2 c κs =
     let in-loop = after-weights-at .before in
     let h : Plain (c .before .any-of .result) = rw (c .before .any-of .ensures) (plain in-loop) in
     let l = after-weights-at .weights-at .ensures .light in
-    (h .r0, h .r1, h .a0, h .a1, l .0, l .3)
+    (h .r0, h .r1, h .a0, h .a1, l .0, omega (arith, l .0, l .3))
 
 mul-out-3 : tie.Need-mul-out-3 Inv-loop μ-loop
 mul-out-3 c =
