@@ -7,7 +7,6 @@ use Prim.Native.Nat.{ℕ, _/_, _%_, _^_, _<_}
 use lib.Pow.{high, low}
 use Rattle.bits.specs.Blocks.{valueOf}
 use Rattle.bits.specs.declared.Block.{Block}
-use Rattle.params_rules.specs.Fields.{answer}
 
 -- ---- what is stated
 -- a promise on one result
