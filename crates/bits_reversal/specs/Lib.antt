@@ -1,2 +1,3 @@
-pub mod Reversals
+pub mod Swaps
 pub mod ReversalLaws
+pub mod SwapLaws

@@ -2,16 +2,13 @@
 -- Assumes nothing.
 use mathlib.Core.Path.{_≡_, refl, sym, ap, _∙_}
 use Prim.Native.Nat.{ℕ, zero, suc, _+_, _*_, _-_, _/_, _%_, _^_, _≤_, _<_}
-use native.Mathlib.Nat.{zero-add, suc-add, add-assoc, pow-succ', mod-lt, div-one, mul-assoc, add-mul, zero-mul}
+use native.Mathlib.Nat.{zero-add, suc-add, add-assoc, pow-succ', mod-lt, mod-eq-of-lt, div-one, mul-assoc, add-mul, zero-mul}
 use native.Mathlib.Numerals.{add-one, one-add}
 use native.Mathlib.Omega.{arith}
 use lib.Pow.{pow-add, field, mod-mod-pow, shr-shr, high, low}
 use lib.Arith.{digits-lt}
 use lib.Dec.{lit<}
-use lib.ListN.{getD}
-use Rattle.laws.specs.Lists.{getD-listOf}
 use Rattle.bits.specs.Bits.{bitsAt, reversed}
-use Rattle.bits_reversal.specs.Reversals.{reversals}
 use Rattle.bits.specs.BitLaws.{bits-lt}
 
 -- reversal: of a number in two parts
@@ -35,7 +32,7 @@ reversed-low (suc n) v =
     let e : 2 ^ suc n ≡ 2 ^ (n + 1) = ap (λ (m : ℕ). 2 ^ m) (sym (add-one n)) in
     rw (e, mod-mod-pow v n 1, field v n 1, reversed-low n (v / 2))
 
--- of two halves: what each wider function of the code does
+-- of two halves: they change places, each reversed
 pub reversed-halves : (n v : ℕ) → reversed (n + n) v ≡ reversed n (v % 2 ^ n) * 2 ^ n + reversed n (v / 2 ^ n)
 reversed-halves n v = rw (reversed-low n v) (reversed-split n n v)
 
@@ -48,15 +45,15 @@ reversed-field a n s v =
     rw (pow-add 2 n s, add-mul (reversed a v * 2 ^ n) (reversed n (v / 2 ^ a)) (2 ^ s), mul-assoc (reversed a v) (2 ^ n) (2 ^ s)) (sym (add-assoc _ _ _)) in
     rw (reversed-split a (n + s) v, reversed-split n s (v / 2 ^ a), e, high (reversed a v * 2 ^ n + reversed n (v / 2 ^ a)) s {lo = reversed s (v / 2 ^ a / 2 ^ n)} (reversed-lt s _), low (reversed a v) n {lo = reversed n (v / 2 ^ a)} (reversed-lt n _), reversed-low n (v / 2 ^ a))
 
-one-bit : (x : ℕ) → x < 2 → reversed 1 x ≡ x
+pub reversed-one : (v : ℕ) → reversed 1 v ≡ v % 2
 unfolding reversed
-one-bit x h = omega arith
+reversed-one v = omega arith
 
 -- bit k of the reversed number is bit n - 1 - k
 pub reversed-bit : (n v k : ℕ) → k < n → bitsAt (reversed n v) k 1 ≡ bitsAt v (n - 1 - k) 1
 reversed-bit n v k h =
     let e : (n - 1 - k) + (1 + k) ≡ n = omega arith in
-    rw e at (reversed-field (n - 1 - k) 1 k v) ∙ one-bit (bitsAt v (n - 1 - k) 1) (bits-lt v (n - 1 - k) 1)
+    rw e at (reversed-field (n - 1 - k) 1 k v) ∙ reversed-one (bitsAt v (n - 1 - k) 1) ∙ mod-eq-of-lt (bits-lt v (n - 1 - k) 1)
 
 -- the two words of a block change places
 pub reversed-words : (hi lo : ℕ) → lo < 2 ^ 64 → reversed 128 (hi * 2 ^ 64 + lo) ≡ reversed 64 lo * 2 ^ 64 + reversed 64 hi
@@ -68,28 +65,3 @@ pub reversed-top : (m n v : ℕ) → n ≤ m → bitsAt (reversed m v) 0 n ≡ r
 reversed-top m n v h =
     let e : (m - n) + (n + 0) ≡ m = omega arith in
     rw e at (reversed-field (m - n) n 0 v)
-
--- the table of reversed bytes, at the low byte of a number
-pub reversals-at : (x : ℕ) → getD reversals (x % 256) 0 ≡ reversed 8 x
-unfolding reversals
-reversals-at x =
-    getD-listOf (reversed 8) 0 256 (x % 256) (omega arith) ∙ ap (reversed 8) (zero-add (x % 256)) ∙ reversed-low 8 x
-
--- one byte more
-reversed-byte : (m k v : ℕ) → reversed (8 + m) (v / 2 ^ k) ≡ reversed 8 (v / 2 ^ k) * 2 ^ m + reversed m (v / 2 ^ (k + 8))
-reversed-byte m k v = reversed-split 8 m (v / 2 ^ k) ∙ rw (shr-shr v k 8)
-
--- a word, byte by byte
-pub reversed-bytes : (v : ℕ)
-    → reversed 64 v
-    ≡ reversed 8 (v / 2 ^ 56)
-    + 0x100 * reversed 8 (v / 2 ^ 48)
-    + 0x1_0000 * reversed 8 (v / 2 ^ 40)
-    + 0x100_0000 * reversed 8 (v / 2 ^ 32)
-    + 0x1_0000_0000 * reversed 8 (v / 2 ^ 24)
-    + 0x100_0000_0000 * reversed 8 (v / 2 ^ 16)
-    + 0x1_0000_0000_0000 * reversed 8 (v / 2 ^ 8)
-    + 0x100_0000_0000_0000 * reversed 8 (v / 2 ^ 0)
-reversed-bytes v =
-    let one : reversed 64 v ≡ reversed 64 (v / 2 ^ 0) = ap (reversed 64) (sym (div-one v)) in
-    omega (arith, one, reversed-byte 56 0 v, reversed-byte 48 8 v, reversed-byte 40 16 v, reversed-byte 32 24 v, reversed-byte 24 32 v, reversed-byte 16 40 v, reversed-byte 8 48 v)

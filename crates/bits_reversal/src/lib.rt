@@ -1,59 +1,39 @@
-// Bits in the other order: of a byte by a table, of a word, and of a block.
+// Bits in the other order, of a word and of a block, by masks and shifts.
 ghost use mathlib.Core.Path.{_≡_};
-ghost use Prim.Native.Nat.{_/_, _^_, _<_};
+ghost use Prim.Native.Nat.{_/_};
 ghost use Rattle.bits.specs.Bits.{reversed};
 ghost use Rattle.bits.specs.Blocks.{valueOf};
-ghost use Rattle.bits_reversal.specs.Reversals.{reversals};
+ghost use Rattle.bits_reversal.specs.Swaps.{SwapGiven, swapped};
 use bits::Block;
 
-mod tables;
-
-use tables::BIT_REVERSE_TABLE;
-
-// The table whose entry x is the byte x with its bits in the other order. It is made once a call
-// and lent.
-pub fn reversal() -> [u8; 256]
-    ensures { λ r. ⌜ r ≡ reversals ⌝ }
+// A word whose neighbouring runs of n bits have changed places, the first with the second, the
+// third with the fourth and so on. The mask has ones at the first, the third and so on.
+fn swap(x: u64, n: usize, mask: u64) -> u64
+    requires { ⌜ SwapGiven n mask ⌝ }
+    ensures { λ r. ⌜ r ≡ swapped n (32 / n) x ⌝ }
 {
-    BIT_REVERSE_TABLE
+    ((x & mask) << n) + ((x >> n) & mask)
 }
 
-fn u64_of(x: u8) -> u64
-    ensures { λ r. ⌜ (r ≡ x) × (r < 256) ⌝ }
-{
-    x as u64
-}
-
-// The byte of x that starts at bit `at`, with its bits in the other order.
-fn reverse8(reversal: &[u8; 256], x: u64, at: usize) -> u64
-    requires { ⌜ (now reversal ≡ reversals) × (at < 64) ⌝ }
-    ensures { λ r. ⌜ (r ≡ reversed 8 (x / 2 ^ at)) × (r < 256) ⌝ }
-{
-    u64_of(reversal[((x >> at) % 256) as usize])
-}
-
-// A word with its bits in the other order.
-pub fn bit_reverse_u64(reversal: &[u8; 256], x: u64) -> u64
-    requires { ⌜ now reversal ≡ reversals ⌝ }
+// A word with its bits in the other order: neighbouring bits change places, then neighbouring pairs
+// of bits, nibbles, bytes, quarters and halves of the word.
+pub fn bit_reverse_u64(x: u64) -> u64
     ensures { λ r. ⌜ r ≡ reversed 64 x ⌝ }
 {
-    reverse8(reversal, x, 56)
-        + 0x100 * reverse8(reversal, x, 48)
-        + 0x1_0000 * reverse8(reversal, x, 40)
-        + 0x100_0000 * reverse8(reversal, x, 32)
-        + 0x1_0000_0000 * reverse8(reversal, x, 24)
-        + 0x100_0000_0000 * reverse8(reversal, x, 16)
-        + 0x1_0000_0000_0000 * reverse8(reversal, x, 8)
-        + 0x100_0000_0000_0000 * reverse8(reversal, x, 0)
+    let in_pairs = swap(x, 1, 0x5555_5555_5555_5555);
+    let in_nibbles = swap(in_pairs, 2, 0x3333_3333_3333_3333);
+    let in_bytes = swap(in_nibbles, 4, 0x0f0f_0f0f_0f0f_0f0f);
+    let in_quarters = swap(in_bytes, 8, 0x00ff_00ff_00ff_00ff);
+    let in_halves = swap(in_quarters, 16, 0x0000_ffff_0000_ffff);
+    swap(in_halves, 32, 0x0000_0000_ffff_ffff)
 }
 
 // The block with its bits in the other order.
-pub fn reverse(reversal: &[u8; 256], b: Block) -> Block
-    requires { ⌜ now reversal ≡ reversals ⌝ }
+pub fn reverse(b: Block) -> Block
     ensures { λ r. ⌜ valueOf r ≡ reversed 128 (valueOf b) ⌝ }
 {
     Block {
-        lo: bit_reverse_u64(reversal, b.hi),
-        hi: bit_reverse_u64(reversal, b.lo),
+        lo: bit_reverse_u64(b.hi),
+        hi: bit_reverse_u64(b.lo),
     }
 }

@@ -33,7 +33,6 @@ fn decode_words(s: &[u8], f: Footprint, out: &mut [u32]) -> usize
     let tables = block_tables::make_tables();
     let mut lanes = [0u16; LANES];
     let answer = block_ordinary::decode_ordinary(
-        &tables.reversal,
         &tables.trits,
         &tables.quints,
         b,

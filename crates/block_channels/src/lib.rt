@@ -47,15 +47,7 @@ fn decode_samples(b: Block, f: Footprint, lanes: &mut [u16; LANES]) -> usize
     ensures { λ a. ⌜ now (lanes .exit) ≡ lanesIn Form.Samples (valueOf b) f (now (lanes .entry)) ⌝ }
 {
     let tables = block_tables::make_tables();
-    block_ordinary::decode_ordinary(
-        &tables.reversal,
-        &tables.trits,
-        &tables.quints,
-        b,
-        f,
-        lanes,
-        Form::Samples,
-    )
+    block_ordinary::decode_ordinary(&tables.trits, &tables.quints, b, f, lanes, Form::Samples)
 }
 
 // Puts the numbers and the marks of a block at a listed footprint, and gives the answer.

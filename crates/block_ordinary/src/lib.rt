@@ -47,7 +47,6 @@ fn ends_of(trits: &[u16; 256], quints: &[u16; 128], b: Block, p: Params) -> [End
 // Puts the weights of a legal block's texels into out, which is all 0.
 fn weights_of(
     out: &mut [u8; WEIGHTS],
-    reversal: &[u8; 256],
     trits: &[u16; 256],
     quints: &[u16; 128],
     b: Block,
@@ -55,7 +54,7 @@ fn weights_of(
     f: Footprint,
 )
     requires { ⌜ now out ≡ replicate mostWeights 0 ⌝ }
-    requires { ⌜ Lent (now reversal) (now trits) (now quints) ⌝ }
+    requires { ⌜ Lent (now trits) (now quints) ⌝ }
     requires { ⌜ Ready p f ⌝ }
     ensures { λ _. ⌜ now (out .exit) ≡ weightsIn p f (weightsField p (valueOf b)) ⌝ }
 {
@@ -63,7 +62,6 @@ fn weights_of(
     let mut seq = [0u8; 72];
     sequence::decode_intseq_reverse(
         &mut seq,
-        reversal,
         trits,
         quints,
         b,
@@ -105,7 +103,6 @@ pub struct BlockData {
 // Puts the lanes of a legal block, its words or its samples. Its record is made and filled here,
 // where it is used: handed on by value it would be copied.
 fn put_ordinary(
-    reversal: &[u8; 256],
     trits: &[u16; 256],
     quints: &[u16; 128],
     b: Block,
@@ -114,7 +111,7 @@ fn put_ordinary(
     lanes: &mut [u16; LANES],
     form: Form,
 )
-    requires { ⌜ (Lent (now reversal) (now trits) (now quints)) × (Ready p f) ⌝ }
+    requires { ⌜ (Lent (now trits) (now quints)) × (Ready p f) ⌝ }
     ensures { λ _. ⌜ now (lanes .exit) ≡ formOf form p (valueOf b) f (now (lanes .entry)) ⌝ }
 {
     let k = p.config;
@@ -127,7 +124,7 @@ fn put_ordinary(
         weights: [0u8; WEIGHTS],
         partition: [0u8; TEXELS],
     };
-    weights_of(&mut d.weights, reversal, trits, quints, b, p, f);
+    weights_of(&mut d.weights, trits, quints, b, p, f);
     partition_of(&mut d.partition, p, f);
     let ends = d.endpoints;
     match form {
@@ -157,7 +154,6 @@ fn put_ordinary(
 // Reads the parameters of a block at a listed footprint, puts its lanes if it is legal, and gives
 // the answer.
 fn put_if_legal<'a>(
-    reversal: &'a [u8; 256],
     trits: &'a [u16; 256],
     quints: &'a [u16; 128],
     b: Block,
@@ -165,7 +161,7 @@ fn put_if_legal<'a>(
     lanes: &mut [u16; LANES],
     form: Form,
 ) -> usize
-    requires { ⌜ Lent (now reversal) (now trits) (now quints) ⌝ }
+    requires { ⌜ Lent (now trits) (now quints) ⌝ }
     requires { ⌜ isVoid (valueOf b) ≡ false ⌝ }
     requires { ⌜ listed f ≡ true ⌝ }
     ensures { λ a. ⌜ a ≡ blockAnswer (valueOf b) f ⌝ }
@@ -174,7 +170,7 @@ fn put_if_legal<'a>(
     let p = params::decode_block_params(b, f);
     let a = p.answer;
     if a == answers::LEGAL {
-        put_ordinary(reversal, trits, quints, b, p, f, lanes, form);
+        put_ordinary(trits, quints, b, p, f, lanes, form);
         return answers::LEGAL;
     }
     a
@@ -184,7 +180,6 @@ fn put_if_legal<'a>(
 // rule puts none. It gives the answer. Block and footprint are made anew of their numbers, which
 // are then handed over in registers.
 pub fn decode_ordinary<'a>(
-    reversal: &'a [u8; 256],
     trits: &'a [u16; 256],
     quints: &'a [u16; 128],
     b: Block,
@@ -192,7 +187,7 @@ pub fn decode_ordinary<'a>(
     lanes: &mut [u16; LANES],
     form: Form,
 ) -> usize
-    requires { ⌜ Lent (now reversal) (now trits) (now quints) ⌝ }
+    requires { ⌜ Lent (now trits) (now quints) ⌝ }
     requires { ⌜ isVoid (valueOf b) ≡ false ⌝ }
     requires { ⌜ listed f ≡ true ⌝ }
     ensures { λ a. ⌜ a ≡ blockAnswer (valueOf b) f ⌝ }
@@ -203,5 +198,5 @@ pub fn decode_ordinary<'a>(
         width: f.width,
         height: f.height,
     };
-    put_if_legal(reversal, trits, quints, own, foot, lanes, form)
+    put_if_legal(trits, quints, own, foot, lanes, form)
 }

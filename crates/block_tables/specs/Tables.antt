@@ -3,19 +3,17 @@
 use mathlib.Core.Path.{_≡_, refl}
 use mathlib.Core.List.{List}
 use Prim.Native.Nat.{ℕ}
-use Rattle.bits_reversal.specs.Reversals.{reversals}
 use Rattle.sequence_ranges.specs.Digits.{tritTable, quintTable}
 use Rattle.block_tables.specs.declared.Tables.{Tables}
 
 abbrev pub theTables : Tables
-theTables = record { reversal = reversals; trits = tritTable; quints = quintTable }
+theTables = record { trits = tritTable; quints = quintTable }
 
 -- lent one by one, they are the defined ones
-pub record Lent (r t q : List ℕ) : Type 0 where
-  pub reversal : r ≡ reversals
+pub record Lent (t q : List ℕ) : Type 0 where
   pub trits : t ≡ tritTable
   pub quints : q ≡ quintTable
 
 -- those that are made are
-pub lent : (t : Tables) → t ≡ theTables → Lent (t .reversal) (t .trits) (t .quints)
-lent t e = rw e (record { reversal = refl; trits = refl; quints = refl })
+pub lent : (t : Tables) → t ≡ theTables → Lent (t .trits) (t .quints)
+lent t e = rw e (record { trits = refl; quints = refl })

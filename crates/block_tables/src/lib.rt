@@ -3,7 +3,6 @@ ghost use mathlib.Core.Path.{_≡_};
 ghost use Rattle.block_tables.specs.Tables.{theTables};
 
 pub struct Tables {
-    pub reversal: [u8; 256],
     pub trits: [u16; 256],
     pub quints: [u16; 128],
 }
@@ -12,7 +11,6 @@ pub fn make_tables() -> Tables
     ensures { λ r. ⌜ r ≡ theTables ⌝ }
 {
     Tables {
-        reversal: bits_reversal::reversal(),
         trits: sequence_ranges::trits(),
         quints: sequence_ranges::quints(),
     }

@@ -50,7 +50,6 @@ fn bad_of(answer: usize) -> usize
 
 // Paints a block and gives its answer. The lanes of a legal block's words are put into `lanes`.
 fn paint_block<'a>(
-    reversal: &'a [u8; 256],
     trits: &'a [u16; 256],
     quints: &'a [u16; 128],
     data: &[u8],
@@ -59,7 +58,7 @@ fn paint_block<'a>(
     lanes: &mut [u16; LANES],
     out: &mut [u32],
 ) -> usize
-    requires { ⌜ Lent (now reversal) (now trits) (now quints) ⌝ }
+    requires { ⌜ Lent (now trits) (now quints) ⌝ }
     requires { ⌜ Sized m (length (now «data»)) (length (now out)) ⌝ }
     requires { ⌜ at .block < totalOf m ⌝ }
     requires { ⌜ At m at ⌝ }
@@ -77,15 +76,7 @@ fn paint_block<'a>(
         image_window::fill_block(block_void::void_color(b), m, at.column, at.row, out);
         return a;
     }
-    let answer = block_ordinary::decode_ordinary(
-        reversal,
-        trits,
-        quints,
-        b,
-        m.footprint,
-        lanes,
-        Form::Words,
-    );
+    let answer = block_ordinary::decode_ordinary(trits, quints, b, m.footprint, lanes, Form::Words);
     if answer == answers::LEGAL {
         image_window::copy_block(lanes, m, at.column, at.row, out);
         return answers::LEGAL;
@@ -113,16 +104,7 @@ pub fn paint_blocks(data: &[u8], m: Shape, first: usize, end: usize, out: &mut [
     };
     let mut bad = 0;
     while at.block < end {
-        bad += bad_of(paint_block(
-            &tables.reversal,
-            &tables.trits,
-            &tables.quints,
-            data,
-            m,
-            at,
-            &mut lanes,
-            out,
-        ));
+        bad += bad_of(paint_block(&tables.trits, &tables.quints, data, m, at, &mut lanes, out));
         at = next(at, across);
     }
     bad

@@ -19,7 +19,7 @@ pub(crate) fn reply_bits(out: &mut [u8; 288], ask: &[u8; 32]) {
     if len <= 64 {
         frame::put_u64(out, 0, bits::getbits(b, start, len));
     }
-    let r = bits_reversal::reverse(&bits_reversal::reversal(), b);
+    let r = bits_reversal::reverse(b);
     frame::put_u64(out, 8, r.lo);
     frame::put_u64(out, 16, r.hi);
 }
@@ -27,12 +27,10 @@ pub(crate) fn reply_bits(out: &mut [u8; 288], ask: &[u8; 32]) {
 // Answers with an entry of each table.
 pub(crate) fn reply_tables(out: &mut [u8; 288], ask: &[u8; 32]) {
     let i = frame::at(ask, 1);
-    let rev = bits_reversal::reversal();
     let trits = sequence_ranges::trits();
     let quints = sequence_ranges::quints();
-    frame::put(out, 0, frame::usize_of(rev[i]));
-    frame::put_pair(out, 1, usize_of_entry(trits[i]));
-    frame::put_pair(out, 3, usize_of_entry(quints[i % 128]));
+    frame::put_pair(out, 0, usize_of_entry(trits[i]));
+    frame::put_pair(out, 2, usize_of_entry(quints[i % 128]));
 }
 
 fn put_values(out: &mut [u8; 288], seq: &[u8; 72]) {
@@ -61,7 +59,6 @@ pub(crate) fn values_of(b: Block, q: usize, n: usize, offset: usize, down: bool)
     if down {
         sequence::decode_intseq_reverse(
             &mut seq,
-            &bits_reversal::reversal(),
             &sequence_ranges::trits(),
             &sequence_ranges::quints(),
             b,

@@ -3,7 +3,6 @@ ghost use mathlib.Core.Path.{_≡_};
 ghost use Prim.Native.Nat.{_≤_};
 ghost use lib.ListN.{replicate};
 ghost use Rattle.bits.specs.Bits.{bitsAt, reversed};
-ghost use Rattle.bits_reversal.specs.Reversals.{reversals};
 ghost use Rattle.bits.specs.Blocks.{valueOf};
 ghost use Rattle.sequence_ranges.specs.Ranges.{most, totalOf};
 ghost use Rattle.sequence_ranges.specs.Digits.{tritTable, quintTable};
@@ -41,25 +40,16 @@ pub fn decode_intseq(
 // is all 0.
 pub fn decode_intseq_reverse(
     out: &mut [u8; 72],
-    reversal: &[u8; 256],
     trits: &[u16; 256],
     quints: &[u16; 128],
     block: Block,
     r: Range,
     n: usize,
 )
-    requires { ⌜ (now out ≡ replicate 72 0) × (now reversal ≡ reversals) × (now trits ≡ tritTable) ×
-        (now quints ≡ quintTable) × (r .bits ≤ most (r .kind)) × (n ≤ 64) ⌝ }
+    requires { ⌜ (now out ≡ replicate 72 0) × (now trits ≡ tritTable) × (now quints ≡ quintTable) ×
+        (r .bits ≤ most (r .kind)) × (n ≤ 64) ⌝ }
     ensures { λ _. ⌜ now (out .exit) ≡
         valuesOf r (bitsAt (reversed 128 (valueOf block)) 0 (totalOf r n)) n ⌝ }
 {
-    decode_intseq(
-        out,
-        trits,
-        quints,
-        bits_reversal::reverse(reversal, block),
-        0,
-        r,
-        n,
-    )
+    decode_intseq(out, trits, quints, bits_reversal::reverse(block), 0, r, n)
 }

@@ -14,7 +14,6 @@ use Rattle.lanes.specs.Lanes.{laneAt, joinedAt, eights as eightsOf}
 use Rattle.bits.specs.Bits.{bitsAt, reversed}
 use Rattle.bits.specs.Blocks.{valueOf}
 use Rattle.bits.specs.declared.Block.{Block}
-use Rattle.bits_reversal.specs.Reversals.{reversals}
 use Rattle.sequence_ranges.specs.Digits.{tritTable, quintTable}
 use Rattle.sequence_ranges.specs.Ranges.{range, rangeOf, totalOf}
 use Rattle.sequence_ranges.specs.declared.Kind.the-variants.{Plain, Trits, Quints}
@@ -95,9 +94,6 @@ cut b start len = block (bitsAt (valueOf b) start len)
 
 pub skip : (b : Block) (n : ℕ) → TightBlock (λ r. valueOf r ≡ valueOf b / 2 ^ n)
 skip b n = block (valueOf b / 2 ^ n)
-
-pub reversal : Tight (List ℕ) (λ r. r ≡ reversals)
-reversal = one (List ℕ) reversals
 
 pub bit-reverse-u64 : (x : ℕ) → Tight ℕ (λ r. r ≡ reversed 64 x)
 bit-reverse-u64 x = one ℕ (reversed 64 x)

@@ -98,10 +98,6 @@ pub mod probe {
         d.partition
     }
 
-    pub fn reversed_byte(x: u8) -> u8 {
-        BIT_REVERSE_TABLE[x as usize]
-    }
-
     pub fn reversed(x: u64, bits: usize) -> u64 {
         bit_reverse_u64(x, bits)
     }

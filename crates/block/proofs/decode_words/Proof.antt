@@ -43,7 +43,7 @@ make-tables-requires c κs = search needs
 
 decode-ordinary-requires : tie.Need-decode-ordinary-requires
 decode-ordinary-requires c κs =
-    let after-make-tables = c .before .before .before .before .before in
+    let after-make-tables = c .before .before .before .before in
     let at-if1 = after-make-tables .before in
     let after-void-answer = at-if1 .before in
     let at-start = after-void-answer .before .before .before .before .before in
@@ -51,7 +51,7 @@ decode-ordinary-requires c κs =
 
 copy-requires : tie.Need-copy-requires
 copy-requires c κs =
-    let at-start = c .before .before .before .before .before .before .before .before .before .before .before .before .before .before .before .before in
+    let at-start = c .before .before .before .before .before .before .before .before .before .before .before .before .before .before .before in
     (omega (arith, sides-of _ (at-start .pre .1 .0) .texels), omega (arith, at-start .pre .1 .1))
 
 same-length-2 : tie.Need-same-length-2
@@ -62,7 +62,7 @@ returns-2 c =
     let after-copy = c .before .before in
     let at-if2 = after-copy .before .before .before in
     let after-decode-ordinary = at-if2 .before in
-    let after-load = after-decode-ordinary .before .before .before .before .before .before .before .before .before in
+    let after-load = after-decode-ordinary .before .before .before .before .before .before .before .before in
     let at-start = after-load .before .before .before .before in
     words-legal _ _ _ (after-load .load .ensures) _ _ _ _ (at-start .pre .1 .0) (after-decode-ordinary .decode-ordinary .ensures .0) (at-if2 .if2 .taken) (after-decode-ordinary .decode-ordinary .ensures .1) (after-copy .copy .ensures)
 
@@ -77,7 +77,7 @@ returns-3 c =
     let after-fill2 = c .before .before in
     let at-if2 = after-fill2 .before .before in
     let after-decode-ordinary = at-if2 .before in
-    let at-if1 = after-decode-ordinary .before .before .before .before .before .before .before in
+    let at-if1 = after-decode-ordinary .before .before .before .before .before .before in
     let after-void-answer = at-if1 .before in
     let after-load = after-void-answer .before in
     words-bad _ _ _ (after-load .load .ensures) _ _ _ _ (after-void-answer .void-answer .ensures) (at-if1 .if1 .left) (after-decode-ordinary .decode-ordinary .ensures .0) (at-if2 .if2 .left) (after-fill2 .fill2 .ensures)

@@ -9,7 +9,7 @@ make-tables-requires c κs = search needs
 
 decode-ordinary-requires : tie.Need-decode-ordinary-requires
 decode-ordinary-requires c κs =
-    let after-make-tables = c .before .before .before .before .before in
+    let after-make-tables = c .before .before .before .before in
     let at-start = after-make-tables .before in
     (lent _ (after-make-tables .make-tables .ensures), at-start .pre)
 

@@ -5,8 +5,8 @@ use borrow.Author.Needs.{needs}
 use Rattle.block_ordinary.proofs.put_ordinary.Statement.{statement}
 use Rattle.block_ordinary.proofs.put_ordinary.Tie as tie
 
-mul-t12 : tie.Need-mul-t12
-mul-t12 c = search needs
+mul-t11 : tie.Need-mul-t11
+mul-t11 c = search needs
 
 ends-of-requires : tie.Need-ends-of-requires
 ends-of-requires c κs = search needs
@@ -63,7 +63,7 @@ pub put-ordinary-spec : {M : Type 1} → statement M
 put-ordinary-spec =
     tie.close
     (tie.spec
-    mul-t12
+    mul-t11
     ends-of-requires
     weights-of-requires
     partition-of-requires

@@ -28,7 +28,7 @@ decode-intseq-reverse-requires c κs =
     let at-start = after-range-of .before .before .before in
     let p = at-start .pre in
     let k = p .1 .1 in
-    (refl, p .1 .0 .reversal, p .1 .0 .trits, p .1 .0 .quints, range-legal _ _ (omega (arith, k .facts .weight-range)) (after-range-of .range-of .ensures), k .fits .few)
+    (refl, p .1 .0 .trits, p .1 .0 .quints, range-legal _ _ (omega (arith, k .facts .weight-range)) (after-range-of .range-of .ensures), k .fits .few)
 
 decode-weights-requires : tie.Need-decode-weights-requires
 decode-weights-requires c κs =

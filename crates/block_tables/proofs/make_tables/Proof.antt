@@ -3,9 +3,6 @@ use borrow.Author.Needs.{needs}
 use Rattle.block_tables.proofs.make_tables.Statement.{statement}
 use Rattle.block_tables.proofs.make_tables.Tie as tie
 
-reversal-requires : tie.Need-reversal-requires
-reversal-requires c κs = search needs
-
 trits-requires : tie.Need-trits-requires
 trits-requires c κs = search needs
 
@@ -13,7 +10,7 @@ quints-requires : tie.Need-quints-requires
 quints-requires c κs = search needs
 
 returns : tie.Need-returns
-returns c = rw (c .before .before .reversal .ensures, c .before .trits .ensures, c .quints .ensures)
+returns c = rw (c .before .trits .ensures, c .quints .ensures)
 
 pub make-tables-spec : {M : Type 1} → statement M
-make-tables-spec = tie.close (tie.spec reversal-requires trits-requires quints-requires returns)
+make-tables-spec = tie.close (tie.spec trits-requires quints-requires returns)

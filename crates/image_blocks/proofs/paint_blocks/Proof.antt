@@ -47,9 +47,9 @@ loop-holds c =
 
 paint-block-requires : tie.Need-paint-block-requires Inv-loop μ-loop
 paint-block-requires c κs =
-    let turn = c .before .before .before .before .before .before .before .before .loop in
-    let after-make-tables = c .before .before .before .before .before .before .before .before .before .before in
-    let at-start = c .before .before .before .before .before .before .before .before .before .before .before .before .before in
+    let turn = c .before .before .before .before .before .before .before .loop in
+    let after-make-tables = c .before .before .before .before .before .before .before .before .before in
+    let at-start = c .before .before .before .before .before .before .before .before .before .before .before .before in
     let inside : turn .at .block < totalOf (at-start .args .m) = omega (arith, at-start .pre .1 .1) in
     (lent _ (after-make-tables .make-tables .ensures), (same-sized _ _ _ _ (at-start .pre .0) (ap length (turn .inv .painted) ∙ length-painted _ _ _ _ _), (inside, (turn .inv .place, turn .inv .room))))
 
@@ -58,12 +58,12 @@ bad-of-requires c κs = search needs
 
 add-bad : tie.Need-add-bad Inv-loop μ-loop
 add-bad c =
-    let at-loop = c .before .before .before .before .before .before .before .before .before .before .before .before in
+    let at-loop = c .before .before .before .before .before .before .before .before .before .before .before in
     omega (arith, at-loop .loop .inv .few, c .bad-of .ensures .1)
 
 next-requires : tie.Need-next-requires Inv-loop μ-loop
 next-requires c κs =
-    let at-loop = c .before .before .before .before .before .before .before .before .before .before .before .before in
+    let at-loop = c .before .before .before .before .before .before .before .before .before .before .before in
     (omega arith, (at-loop .loop .inv .place .row, omega (arith, at-loop .loop .inv .rows, at-loop .loop .inv .place .column)))
 
 loop-less : tie.Need-loop-less Inv-loop μ-loop
@@ -72,8 +72,8 @@ loop-less c = omega (arith, ap (λ (at : Spot). at .block) (c .next .ensures) �
 loop-again : tie.Need-loop-again Inv-loop μ-loop
 loop-again c =
     let after-paint-block = c .before .before .before .before in
-    let turn = c .before .before .before .before .before .before .before .before .before .before .before .before .before .loop in
-    let at-start = c .before .before .before .before .before .before .before .before .before .before .before .before .before .before .before .before .before .before in
+    let turn = c .before .before .before .before .before .before .before .before .before .before .before .before .loop in
+    let at-start = c .before .before .before .before .before .before .before .before .before .before .before .before .before .before .before .before .before in
     painting-next _ _ _ _ _ _ _ _ _ _ (turn .inv) _ _ _ _ _ (sized-bounded _ _ _ (at-start .pre .0)) (omega arith) (c .next .ensures) (c .before .bad-of .ensures) (after-paint-block .paint-block .ensures)
 
 same-length : tie.Need-same-length Inv-loop μ-loop

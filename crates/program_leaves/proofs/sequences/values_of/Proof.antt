@@ -7,9 +7,6 @@ use Rattle.program_leaves.proofs.sequences.values_of.Tie as tie
 legal-range-requires : tie.Need-legal-range-requires
 legal-range-requires c κs = search needs
 
-reversal-requires : tie.Need-reversal-requires
-reversal-requires c κs = search needs
-
 trits-requires : tie.Need-trits-requires
 trits-requires c κs = search needs
 
@@ -21,7 +18,7 @@ decode-intseq-reverse-requires c κs = search needs
 
 returns : tie.Need-returns
 returns c =
-    let after-legal-range = c .before .before .before .before .before .before .before .before .before in
+    let after-legal-range = c .before .before .before .before .before .before .before in
     decoded _ _ _ _ _ (after-legal-range .legal-range .ensures .0) (c .decode-intseq-reverse .ensures)
 
 trits-requires-2 : tie.Need-trits-requires-2
@@ -43,7 +40,6 @@ values-of-spec =
     tie.close
     (tie.spec
     legal-range-requires
-    reversal-requires
     trits-requires
     quints-requires
     decode-intseq-reverse-requires
