@@ -11,7 +11,7 @@ use lib.Arith.{digits-lt}
 use lib.Bits.{bitAnd, and-zero-r, and-block, and-mask}
 use lib.Dec.{lit<}
 use Rattle.bits.specs.Bits.{reversed}
-use Rattle.bits_reversal.specs.Swaps.{swapped, lowerRuns, SwapGiven}
+use Rattle.bits_reversal.specs.Swaps.{runsSwapped, lowerRuns, SwapGiven}
 use Rattle.bits_reversal.specs.ReversalLaws.{reversed-one, reversed-split, reversed-lt}
 
 -- ---- masks and shifts exchange runs
@@ -29,32 +29,32 @@ masked n m v =
 beside : (a b p k l u : ℕ) → (a * p + l) * k + (b * p + u) ≡ (a * k + b) * p + (l * k + u)
 beside a b p k l u = omega (arith, add-mul (a * p) l k, add-mul (a * k) b p, mul-right-comm a p k)
 
-swap-is : (n m v : ℕ) → bitAnd v (lowerRuns n m) * 2 ^ n + bitAnd (v / 2 ^ n) (lowerRuns n m) ≡ swapped n m v
-unfolding swapped lowerRuns
+swap-is : (n m v : ℕ) → bitAnd v (lowerRuns n m) * 2 ^ n + bitAnd (v / 2 ^ n) (lowerRuns n m) ≡ runsSwapped n m v
+unfolding runsSwapped lowerRuns
 swap-is n zero v = rw (and-zero-r v, and-zero-r (v / 2 ^ n), zero-mul (2 ^ n))
 swap-is n (suc m) v =
     let e : v / 2 ^ n / 2 ^ (n + n) ≡ v / 2 ^ (n + n) / 2 ^ n = rw (shr-shr v n (n + n), shr-shr v (n + n) n, add-comm n (n + n)) in
     rw (masked n m v, masked n m (v / 2 ^ n), e, ← (swap-is n m (v / 2 ^ (n + n))))
     (beside _ _ (2 ^ (n + n)) (2 ^ n) (v % 2 ^ n) (v / 2 ^ n % 2 ^ n))
 
-swapped-lt : (n m v : ℕ) → swapped n m v < 2 ^ ((n + n) * m)
-unfolding swapped
-swapped-lt n zero v = rw (mul-zero (n + n)) (lit< tt)
-swapped-lt n (suc m) v =
+runs-swapped-lt : (n m v : ℕ) → runsSwapped n m v < 2 ^ ((n + n) * m)
+unfolding runsSwapped
+runs-swapped-lt n zero v = rw (mul-zero (n + n)) (lit< tt)
+runs-swapped-lt n (suc m) v =
     rw (mul-suc (n + n) m, pow-add 2 ((n + n) * m) (n + n))
-    (digits-lt (swapped-lt n m (v / 2 ^ (n + n))) (rw (pow-add 2 n n) (digits-lt (mod-lt v (pow-pos n)) (mod-lt (v / 2 ^ n) (pow-pos n)))))
+    (digits-lt (runs-swapped-lt n m (v / 2 ^ (n + n))) (rw (pow-add 2 n n) (digits-lt (mod-lt v (pow-pos n)) (mod-lt (v / 2 ^ n) (pow-pos n)))))
 
 -- as a machine with words of 64 bits does it: the shift loses nothing
-pub swap-whole : (v n mask : ℕ) → SwapGiven n mask → bitAnd v mask * 2 ^ n % 2 ^ 64 + bitAnd (v / 2 ^ n) mask ≡ swapped n (32 / n) v
+pub swap-whole : (v n mask : ℕ) → SwapGiven n mask → bitAnd v mask * 2 ^ n % 2 ^ 64 + bitAnd (v / 2 ^ n) mask ≡ runsSwapped n (32 / n) v
 swap-whole v n mask g =
     let m : ℕ = 32 / n in
-    let e : bitAnd v mask * 2 ^ n + bitAnd (v / 2 ^ n) mask ≡ swapped n m v = rw (g .lower) (swap-is n m v) in
-    let l : swapped n m v < 2 ^ 64 = rw (g .fills) at (swapped-lt n m v) in
+    let e : bitAnd v mask * 2 ^ n + bitAnd (v / 2 ^ n) mask ≡ runsSwapped n m v = rw (g .lower) (swap-is n m v) in
+    let l : runsSwapped n m v < 2 ^ 64 = rw (g .fills) at (runs-swapped-lt n m v) in
     ap (λ (x : ℕ). x + bitAnd (v / 2 ^ n) mask) (mod-eq-of-lt (omega (arith, e, l))) ∙ e
 
 -- nor does the sum
 pub swap-fits : (v n mask : ℕ) → SwapGiven n mask → bitAnd v mask * 2 ^ n % 2 ^ 64 + bitAnd (v / 2 ^ n) mask < 2 ^ 64
-swap-fits v n mask g = rw (swap-whole v n mask g) (rw (g .fills) at (swapped-lt n (32 / n) v))
+swap-fits v n mask g = rw (swap-whole v n mask g) (rw (g .fills) at (runs-swapped-lt n (32 / n) v))
 
 -- ---- exchanged runs are runs of twice the length
 
@@ -63,8 +63,8 @@ unfoldable runs : ℕ → ℕ → ℕ → ℕ
 runs n zero v = 0
 runs n (suc m) v = runs n m (v / 2 ^ n) * 2 ^ n + reversed n v
 
-doubled : (n m v : ℕ) → swapped n m (runs n (m + m) v) ≡ runs (n + n) m v
-unfolding swapped runs
+doubled : (n m v : ℕ) → runsSwapped n m (runs n (m + m) v) ≡ runs (n + n) m v
+unfolding runsSwapped runs
 doubled n zero v = refl
 doubled n (suc m) v =
     let a : ℕ = runs n (m + m) (v / 2 ^ n / 2 ^ n) in
@@ -87,12 +87,20 @@ unfolding runs
 whole n v = rw (zero-mul (2 ^ n)) (zero-add (reversed n v))
 
 -- six exchanges, one after the other
-pub six-swaps : {a b c d e r : ℕ} (v : ℕ) → v < 2 ^ 64 → a ≡ swapped 1 32 v → b ≡ swapped 2 16 a → c ≡ swapped 4 8 b → d ≡ swapped 8 4 c → e ≡ swapped 16 2 d → r ≡ swapped 32 1 e → r ≡ reversed 64 v
+pub six-swaps : {a b c d e r : ℕ} (v : ℕ)
+    → v < 2 ^ 64
+    → a ≡ runsSwapped 1 32 v
+    → b ≡ runsSwapped 2 16 a
+    → c ≡ runsSwapped 4 8 b
+    → d ≡ runsSwapped 8 4 c
+    → e ≡ runsSwapped 16 2 d
+    → r ≡ runsSwapped 32 1 e
+    → r ≡ reversed 64 v
 six-swaps v h one two four eight sixteen thirty-two =
     let start : v ≡ runs 1 64 v = sym (single 64 v ∙ mod-eq-of-lt h) in
-    let in-pairs = one ∙ ap (swapped 1 32) start ∙ doubled 1 32 v in
-    let in-nibbles = two ∙ ap (swapped 2 16) in-pairs ∙ doubled 2 16 v in
-    let in-bytes = four ∙ ap (swapped 4 8) in-nibbles ∙ doubled 4 8 v in
-    let in-quarters = eight ∙ ap (swapped 8 4) in-bytes ∙ doubled 8 4 v in
-    let in-halves = sixteen ∙ ap (swapped 16 2) in-quarters ∙ doubled 16 2 v in
-    thirty-two ∙ ap (swapped 32 1) in-halves ∙ doubled 32 1 v ∙ whole 64 v
+    let in-pairs = one ∙ ap (runsSwapped 1 32) start ∙ doubled 1 32 v in
+    let in-nibbles = two ∙ ap (runsSwapped 2 16) in-pairs ∙ doubled 2 16 v in
+    let in-bytes = four ∙ ap (runsSwapped 4 8) in-nibbles ∙ doubled 4 8 v in
+    let in-quarters = eight ∙ ap (runsSwapped 8 4) in-bytes ∙ doubled 8 4 v in
+    let in-halves = sixteen ∙ ap (runsSwapped 16 2) in-quarters ∙ doubled 16 2 v in
+    thirty-two ∙ ap (runsSwapped 32 1) in-halves ∙ doubled 32 1 v ∙ whole 64 v

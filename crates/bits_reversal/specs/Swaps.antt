@@ -4,9 +4,9 @@ use mathlib.Core.Path.{_≡_}
 use Prim.Native.Nat.{ℕ, zero, suc, _+_, _*_, _-_, _/_, _%_, _^_, _<_}
 
 -- m pairs of runs of n bits: in each pair the lower run comes to stand above the upper one
-unfoldable pub swapped : ℕ → ℕ → ℕ → ℕ
-swapped n zero v = 0
-swapped n (suc m) v = swapped n m (v / 2 ^ (n + n)) * 2 ^ (n + n) + (v % 2 ^ n * 2 ^ n + v / 2 ^ n % 2 ^ n)
+unfoldable pub runsSwapped : ℕ → ℕ → ℕ → ℕ
+runsSwapped n zero v = 0
+runsSwapped n (suc m) v = runsSwapped n m (v / 2 ^ (n + n)) * 2 ^ (n + n) + (v % 2 ^ n * 2 ^ n + v / 2 ^ n % 2 ^ n)
 
 -- ones at the lower run of each of m pairs
 unfoldable pub lowerRuns : ℕ → ℕ → ℕ

@@ -2,8 +2,8 @@
 -- the sum loses a bit.
 use Rattle.bits_reversal.specs.SwapLaws.{swap-fits, swap-whole}
 use borrow.Author.Needs.{needs}
-use Rattle.bits_reversal.proofs.swap.Statement.{statement}
-use Rattle.bits_reversal.proofs.swap.Tie as tie
+use Rattle.bits_reversal.proofs.swap_runs.Statement.{statement}
+use Rattle.bits_reversal.proofs.swap_runs.Tie as tie
 
 shl-result : tie.Need-shl-result
 shl-result c = search needs
@@ -17,5 +17,5 @@ add-result c = search (needs, swap-fits)
 returns : tie.Need-returns
 returns c = swap-whole _ _ _ (c .pre)
 
-pub swap-spec : {M : Type 1} → statement M
-swap-spec = tie.close (tie.spec shl-result shr-result add-result returns)
+pub swap-runs-spec : {M : Type 1} → statement M
+swap-runs-spec = tie.close (tie.spec shl-result shr-result add-result returns)
