@@ -1,5 +1,4 @@
-/* Decodes a block to words, one to bytes and floats, two in both readings, and an image of three blocks in steps of two: how the C surface
- * is used. */
+/* Decodes a block to words, one to bytes and floats, and an image of three blocks in steps of two: the use of the C surface in full. */
 #include "astc.h"
 #include <stdio.h>
 #include <string.h>
@@ -13,16 +12,6 @@ static const uint8_t DATA[3 * ASTC_BLOCK_BYTES] = {
 /* A legal block whose colour is HDR and whose alpha is not. */
 static const uint8_t HDR[ASTC_BLOCK_BYTES] = {
     0x42, 0xc0, 0xf1, 0x20, 0x01, 0x31, 0x89, 0xa1, 0x01, 0xff, 0x01, 0x00, 0x00, 0x00, 0x00, 0xc0,
-};
-
-/* A void block whose low s and low t are above its high s and high t, which the standard forbids. */
-static const uint8_t BACKWARDS[ASTC_BLOCK_BYTES] = {
-    0xfc, 0xfd, 0xff, 0x01, 0xc0, 0xff, 0x07, 0x00, 0x00, 0x00, 0x00, 0x80, 0x00, 0x40, 0xff, 0xff,
-};
-
-/* A legal block of endpoint mode 11, in which green and blue have negative offsets. */
-static const uint8_t NEGATIVE[ASTC_BLOCK_BYTES] = {
-    0x42, 0x60, 0xe1, 0x01, 0x00, 0x00, 0xe0, 0xc0, 0x00, 0x00, 0x00, 0x00, 0x00, 0x00, 0x00, 0x00,
 };
 
 static void print_word(uint32_t word) {
@@ -70,20 +59,6 @@ static void show_channels(void) {
     printf("\n");
 }
 
-/* The two blocks that a reading changes. */
-static void show_reading(const char *name, uint32_t options) {
-    uint32_t words[16];
-    uint32_t channels[64];
-    uint8_t floats[16];
-    uint32_t answer = astc_decode_block_with(options, BACKWARDS, sizeof BACKWARDS, 4, 4, words, 16);
-    printf("%s reading: void block answer %u", name, (unsigned)answer);
-    print_word(words[0]);
-    answer = astc_block_channels(options, NEGATIVE, sizeof NEGATIVE, 4, 4, channels, 64, floats, 16);
-    printf(", HDR block answer %u", (unsigned)answer);
-    print_channels(channels, floats[0]);
-    printf("\n");
-}
-
 /* An image of 10x4 pixels: the last block's right half is clipped. */
 static void show_steps(void) {
     enum { WIDTH = 10, HEIGHT = 4, PIXELS = WIDTH * HEIGHT };
@@ -106,8 +81,6 @@ int main(void) {
     uint32_t words[40];
     show_block();
     show_channels();
-    show_reading("crate's", 0);
-    show_reading("standard's", ASTC_STANDARD_READING);
     show_steps();
     printf("whole: answer %u\n", (unsigned)astc_decode_image(DATA, sizeof DATA, 10, 4, 4, 4, words, 40));
     printf("short output: answer %u\n", (unsigned)astc_decode_image(DATA, sizeof DATA, 10, 4, 4, 4, words, 39));

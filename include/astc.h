@@ -44,9 +44,9 @@ extern "C" {
 #endif
 
 /* The answers, in the order in which they are looked for: 23, where a function takes options; a
- * block's 20, 21, 22, then 1 or, in the standard's reading, 17 in its place, then 10 to 16; an
- * image's 21, 30, 31, 22; a step's those of the image, then 33 and 34. A block that answers 10 to
- * 17 breaks a rule and is painted magenta (255, 0, 255, 255). */
+ * block's 20, 21, 22, then 1, then 10 to 16; an image's 21, 30, 31, 22; a step's those of the
+ * image, then 33 and 34. A block that answers 10 to 16 breaks a rule and is painted magenta
+ * (255, 0, 255, 255). */
 enum astc_answer {
     ASTC_LEGAL = 0,                /* a legal block, painted; an accepted image or step */
     ASTC_VOID_EXTENT = 1,          /* a void-extent block, painted in its one colour */
@@ -57,8 +57,6 @@ enum astc_answer {
     ASTC_DUAL_PLANE_OF_FOUR = 14,  /* two planes with four partitions */
     ASTC_TOO_MANY_VALUES = 15,     /* more than 18 endpoint values */
     ASTC_TOO_LITTLE_ROOM = 16,     /* too few bits for the endpoint values */
-    ASTC_BAD_EXTENT = 17,          /* a void-extent block that breaks the standard's rules on its
-                                      extent; in the standard's reading alone */
     ASTC_BLOCK_LENGTH = 20,        /* the block is not 16 bytes */
     ASTC_FOOTPRINT = 21,           /* the footprint is not one of the fourteen */
     ASTC_OUTPUT_TOO_SHORT = 22,    /* an output has too few places */
@@ -67,21 +65,6 @@ enum astc_answer {
     ASTC_DATA_LENGTH = 31,         /* the data is not exactly 16 bytes a block */
     ASTC_NO_BLOCKS = 33,           /* a step of 0 blocks */
     ASTC_PAST_THE_END = 34         /* a step from above the number of blocks */
-};
-
-/* The bits of `options`, which may be or-ed together; any other bit answers 23. With 0 blocks are
- * read as the Rust crate texture2ddecoder 0.1.2 reads them, of which this decoder is a
- * translation: the crate's reading. A function without options is the one of its name with _with,
- * at 0. */
-enum astc_option {
-    /* The standard's reading in place of the crate's. The two part in two things:
-     * - A negative offset of the HDR endpoint modes 11, 14 and 15 has its sign extended. The crate
-     *   reads it as a large positive one, which makes its component of the first endpoint 0.
-     * - A void-extent block must have the bits 10 and 11 set, and its four extents of 13 bits (low
-     *   s, high s, low t and high t, from the bits 12, 25, 38 and 51 on) must be all ones, or each
-     *   low must be below its high. Otherwise it answers 17. In the crate's reading every
-     *   void-extent block answers 1. */
-    ASTC_STANDARD_READING = 1
 };
 
 /* The places of the numbers of a map. Starts and lengths are in bits. */
@@ -102,32 +85,28 @@ enum astc_map_place {
 enum astc_step_place {
     ASTC_STEP_NEXT = 0,            /* the block from which the next step is to start */
     ASTC_STEP_PAINTED = 1,         /* the blocks that this step painted */
-    ASTC_STEP_BAD = 2,             /* how many of them answered 10 to 17 */
+    ASTC_STEP_BAD = 2,             /* how many of them answered 10 to 16 */
     ASTC_STEP_NUMBERS = 3          /* how many numbers a step writes */
 };
 
 /* Paints the first bw * bh words of out with a block's texels, and gives the block's answer. For
- * 23, 20, 21 and 22 out is as it was; words after the painted ones never change. */
+ * 20, 21 and 22 out is as it was; words after the painted ones never change. */
 uint32_t astc_decode_block(const uint8_t *block, size_t block_len, size_t bw, size_t bh,
                            uint32_t *out, size_t out_len);
-uint32_t astc_decode_block_with(uint32_t options, const uint8_t *block, size_t block_len,
-                                size_t bw, size_t bh, uint32_t *out, size_t out_len);
 
 /* Writes the map of a block to map, nine numbers, and gives the block's answer: the largest value
  * of the endpoints' range; then start and length, in bits, of low configuration, endpoints, extra
- * field and weights (enum astc_map_place). All nine are 0 for an answer of 1 or 10 to 17. For 23,
- * 20, 21 and 22 (fewer than nine places) map is as it was. No bit outside the four fields changes
- * a legal block's words. */
+ * field and weights (enum astc_map_place). All nine are 0 for an answer of 1 or 10 to 16. For 20,
+ * 21 and 22 (fewer than nine places) map is as it was. No bit outside the four fields changes a
+ * legal block's words. */
 uint32_t astc_block_map(const uint8_t *block, size_t block_len, size_t bw, size_t bh,
                         uint32_t *map, size_t map_len);
-uint32_t astc_block_map_with(uint32_t options, const uint8_t *block, size_t block_len, size_t bw,
-                             size_t bh, uint32_t *map, size_t map_len);
 
 /* Writes the channels of a block's texels, and gives the block's answer. Texel i has four numbers
  * in channels, red, green, blue and alpha, from place 4 * i on, and a byte in floats. A number is
  * 0 to 255, or the 32 bits of an IEEE float where the texel's byte has the channel's bit: 1 for
  * red, 2 for green, 4 for blue, 8 for alpha; its other bits are 0. Bytes are those of the texel's
- * word with the same options.
+ * word.
  *
  * In a block with endpoints a channel is a float where its pair of endpoints is HDR. The float
  * equals the half that ASTC blends, exactly, with the largest finite half, 65504, in place of
@@ -135,33 +114,28 @@ uint32_t astc_block_map_with(uint32_t options, const uint8_t *block, size_t bloc
  * they are, infinities, minus zero and subnormals too, and a NaN as 0x7fc00000 or, with its sign,
  * 0xffc00000. Magenta is in bytes.
  *
- * 22 is for fewer than 4 * bw * bh places in channels or fewer than bw * bh in floats. For 23, 20,
- * 21 and 22 both outputs are as they were; places after a block's texels never change. */
+ * options is 0; any other number answers 23. 22 is for fewer than 4 * bw * bh places in channels
+ * or fewer than bw * bh in floats. For 23, 20, 21 and 22 both outputs are as they were; places
+ * after a block's texels never change. */
 uint32_t astc_block_channels(uint32_t options, const uint8_t *block, size_t block_len, size_t bw,
                              size_t bh, uint32_t *channels, size_t channels_len, uint8_t *floats,
                              size_t floats_len);
 
 /* Paints the first width * height words of out with an image of
  * ceil(width / bw) * ceil(height / bh) blocks, edge blocks clipped, and answers 0; blocks that
- * break a rule are magenta. For 23, 21, 30, 31 and 22 out is as it was. */
+ * break a rule are magenta. For 21, 30, 31 and 22 out is as it was. */
 uint32_t astc_decode_image(const uint8_t *data, size_t data_len, size_t width, size_t height,
                            size_t bw, size_t bh, uint32_t *out, size_t out_len);
-uint32_t astc_decode_image_with(uint32_t options, const uint8_t *data, size_t data_len,
-                                size_t width, size_t height, size_t bw, size_t bh, uint32_t *out,
-                                size_t out_len);
 
 /* Paints at most `blocks` blocks of an image, from block `next` on, and answers 0. Three numbers
  * are written to moved (enum astc_step_place): the next block, the blocks painted, and how many of
- * them answered 10 to 17. A step from the last block's end is accepted and paints nothing. A
- * refused step leaves out as it was and writes next as given and two zeros. With fewer than three
- * places in moved a step writes nothing and is refused: by 22, after 23 and the image's own
- * refusals and before 33 and 34. */
+ * them answered 10 to 16. A step from the last block's end is accepted and paints nothing. A
+ * refused step leaves out as it was and writes next as given and two zeros; with fewer than three
+ * places in moved it answers 22, after the image's own refusals and before 33 and 34, and writes
+ * nothing. */
 uint32_t astc_image_step(const uint8_t *data, size_t data_len, size_t width, size_t height,
                          size_t bw, size_t bh, size_t next, size_t blocks, uint32_t *out,
                          size_t out_len, uint64_t *moved, size_t moved_len);
-uint32_t astc_image_step_with(uint32_t options, const uint8_t *data, size_t data_len, size_t width,
-                              size_t height, size_t bw, size_t bh, size_t next, size_t blocks,
-                              uint32_t *out, size_t out_len, uint64_t *moved, size_t moved_len);
 
 #ifdef __cplusplus
 }

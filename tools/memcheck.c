@@ -2,8 +2,7 @@
  * outside of them; and with outputs that nothing has written yet, so that it sees each word that is left out when they are compared.
  *
  * The blocks are those of the stored list, whose file is the only argument: of each a byte for width, height and answer, the block,
- * and its words, four bytes each, least first. They are called for by the functions without options, and by those with them in both
- * readings. */
+ * and its words, four bytes each, least first. */
 #include "astc.h"
 #include <stdio.h>
 #include <stdlib.h>
@@ -14,40 +13,6 @@ enum { CHANNELS = 4, HEAD = 3 + ASTC_BLOCK_BYTES, FOOTPRINTS = 14, MARK = 0x5a }
 static const uint8_t SIDES[FOOTPRINTS][2] = {{4, 4}, {5, 4}, {5, 5}, {6, 5}, {6, 6}, {8, 5}, {8, 6}, {8, 8}, {10, 5}, {10, 6}, {10, 8}, {10, 10}, {12, 10}, {12, 12}};
 
 static unsigned long blocks, images, steps, refusals;
-
-/* The options of a call, or NONE for the function without them. */
-typedef int64_t options;
-enum { NONE = -1 };
-
-/* Those that are taken, and some that are not. */
-static const options TAKEN[] = {NONE, 0, ASTC_STANDARD_READING};
-static const uint32_t WRONG[] = {2, 3, 4, 8, 0x80000000u};
-enum { TAKEN_COUNT = sizeof TAKEN / sizeof TAKEN[0], WRONG_COUNT = sizeof WRONG / sizeof WRONG[0] };
-
-static uint32_t number_of(options o) { return o == NONE ? 0 : (uint32_t)o; }
-
-static uint32_t decode_block(options o, const uint8_t *block, size_t length, size_t bw, size_t bh, uint32_t *out, size_t room) {
-    return o == NONE ? astc_decode_block(block, length, bw, bh, out, room) : astc_decode_block_with(number_of(o), block, length, bw, bh, out, room);
-}
-
-static uint32_t block_map(options o, const uint8_t *block, size_t length, size_t bw, size_t bh, uint32_t *map, size_t room) {
-    return o == NONE ? astc_block_map(block, length, bw, bh, map, room) : astc_block_map_with(number_of(o), block, length, bw, bh, map, room);
-}
-
-/* The sizes of an image, and of its data and its output. */
-struct sizes {
-    size_t length, width, height, bw, bh, next, blocks, room, places;
-};
-
-static uint32_t decode_image(options o, const uint8_t *data, struct sizes s, uint32_t *out) {
-    return o == NONE ? astc_decode_image(data, s.length, s.width, s.height, s.bw, s.bh, out, s.room)
-                     : astc_decode_image_with(number_of(o), data, s.length, s.width, s.height, s.bw, s.bh, out, s.room);
-}
-
-static uint32_t image_step(options o, const uint8_t *data, struct sizes s, uint32_t *out, uint64_t *moved) {
-    return o == NONE ? astc_image_step(data, s.length, s.width, s.height, s.bw, s.bh, s.next, s.blocks, out, s.room, moved, s.places)
-                     : astc_image_step_with(number_of(o), data, s.length, s.width, s.height, s.bw, s.bh, s.next, s.blocks, out, s.room, moved, s.places);
-}
 
 static void hold(int right, const char *what) {
     if (!right) {
@@ -99,11 +64,11 @@ static uint32_t word_of(const uint8_t *record, size_t texel) {
     return b[0] | (uint32_t)b[1] << 8 | (uint32_t)b[2] << 16 | (uint32_t)b[3] << 24;
 }
 
-static void paint_block(options o, const uint8_t *record) {
+static void paint_block(const uint8_t *record) {
     size_t texels = texels_of(record);
     uint8_t *block = copy(block_of(record), ASTC_BLOCK_BYTES);
     uint32_t *words = fresh(4 * texels);
-    uint32_t answer = decode_block(o, block, ASTC_BLOCK_BYTES, bw_of(record), bh_of(record), words, texels);
+    uint32_t answer = astc_decode_block(block, ASTC_BLOCK_BYTES, bw_of(record), bh_of(record), words, texels);
     hold(answer == answer_of(record), "the answer of a block");
     for (size_t i = 0; i < texels; i++) {
         hold(words[i] == word_of(record, i), "a word of a block");
@@ -112,10 +77,10 @@ static void paint_block(options o, const uint8_t *record) {
     free(block);
 }
 
-static void map_block(options o, const uint8_t *record) {
+static void map_block(const uint8_t *record) {
     uint8_t *block = copy(block_of(record), ASTC_BLOCK_BYTES);
     uint32_t *map = fresh(4 * ASTC_MAP_NUMBERS);
-    uint32_t answer = block_map(o, block, ASTC_BLOCK_BYTES, bw_of(record), bh_of(record), map, ASTC_MAP_NUMBERS);
+    uint32_t answer = astc_block_map(block, ASTC_BLOCK_BYTES, bw_of(record), bh_of(record), map, ASTC_MAP_NUMBERS);
     uint32_t end = 0;
     hold(answer == answer_of(record), "the answer of a map");
     hold(map[0] <= 255, "the largest value of a map");
@@ -147,12 +112,12 @@ static uint32_t byte_of(uint32_t number, int is_float) {
 }
 
 /* Each channel and each mark is defined, and a texel's channels come to its word. */
-static void channel_block(options o, const uint8_t *record) {
+static void channel_block(const uint8_t *record) {
     static const int PLACES[CHANNELS] = {16, 8, 0, 24};
     size_t texels = texels_of(record);
     uint8_t *block = copy(block_of(record), ASTC_BLOCK_BYTES), *floats = fresh(texels);
     uint32_t *numbers = fresh(4 * CHANNELS * texels);
-    uint32_t answer = astc_block_channels(number_of(o), block, ASTC_BLOCK_BYTES, bw_of(record), bh_of(record), numbers, CHANNELS * texels, floats, texels);
+    uint32_t answer = astc_block_channels(0, block, ASTC_BLOCK_BYTES, bw_of(record), bh_of(record), numbers, CHANNELS * texels, floats, texels);
     hold(answer == answer_of(record), "the answer of channels");
     for (size_t i = 0; i < texels; i++) {
         uint32_t word = 0;
@@ -170,12 +135,12 @@ static void channel_block(options o, const uint8_t *record) {
 }
 
 /* The block and its map take the same arguments. */
-typedef uint32_t (*block_call)(options, const uint8_t *, size_t, size_t, size_t, uint32_t *, size_t);
+typedef uint32_t (*block_call)(const uint8_t *, size_t, size_t, size_t, uint32_t *, size_t);
 
-static void refuse(block_call call, options o, size_t length, size_t bw, size_t bh, size_t room, uint32_t answer) {
+static void refuse(block_call call, size_t length, size_t bw, size_t bh, size_t room, uint32_t answer) {
     uint8_t *block = marked(length);
     uint32_t *out = marked(4 * room);
-    hold(call(o, block, length, bw, bh, out, room) == answer, "the answer of a refused block or map");
+    hold(call(block, length, bw, bh, out, room) == answer, "the answer of a refused block or map");
     hold_marked(out, 4 * room);
     free(block);
     refusals++;
@@ -191,28 +156,19 @@ static void refuse_channels(uint32_t options, size_t length, size_t bw, size_t b
     refusals++;
 }
 
-/* Either output of channels too short, or both. */
-static void refuse_rooms(uint32_t number, size_t bw, size_t bh) {
+/* Either output too short, or both, and options that are not known. */
+static void refuse_options_and_rooms(size_t bw, size_t bh) {
+    static const uint32_t OPTIONS[] = {1, 2, 4, 8, 0x80000000u};
     size_t texels = bw * bh, numbers = CHANNELS * texels;
-    refuse_channels(number, ASTC_BLOCK_BYTES, bw, bh, numbers - 1, texels, ASTC_OUTPUT_TOO_SHORT);
-    refuse_channels(number, ASTC_BLOCK_BYTES, bw, bh, numbers, texels - 1, ASTC_OUTPUT_TOO_SHORT);
-    refuse_channels(number, ASTC_BLOCK_BYTES, bw, bh, texels, texels, ASTC_OUTPUT_TOO_SHORT);
-    refuse_channels(number, ASTC_BLOCK_BYTES, bw, bh, 0, 0, ASTC_OUTPUT_TOO_SHORT);
-}
-
-/* Options that are not taken, with right sizes and with wrong ones. */
-static void refuse_options(uint32_t wrong, size_t bw, size_t bh) {
-    static const block_call CALLS[] = {decode_block, block_map};
-    size_t texels = bw * bh, numbers = CHANNELS * texels;
-    refuse_channels(wrong, ASTC_BLOCK_BYTES, bw, bh, numbers, texels, ASTC_OPTIONS);
-    refuse_channels(wrong, ASTC_BLOCK_BYTES - 1, bw, bh, numbers, texels, ASTC_OPTIONS);
-    refuse_channels(wrong, ASTC_BLOCK_BYTES, bw, bh, 0, 0, ASTC_OPTIONS);
-    refuse_channels(wrong, 0, SIZE_MAX, bh, 0, 0, ASTC_OPTIONS);
-    for (int i = 0; i < 2; i++) {
-        refuse(CALLS[i], wrong, ASTC_BLOCK_BYTES, bw, bh, texels, ASTC_OPTIONS);
-        refuse(CALLS[i], wrong, ASTC_BLOCK_BYTES - 1, bw, bh, texels, ASTC_OPTIONS);
-        refuse(CALLS[i], wrong, ASTC_BLOCK_BYTES, bw, SIZE_MAX, 0, ASTC_OPTIONS);
-        refuse(CALLS[i], wrong, 0, bw, bh, 0, ASTC_OPTIONS);
+    refuse_channels(0, ASTC_BLOCK_BYTES, bw, bh, numbers - 1, texels, ASTC_OUTPUT_TOO_SHORT);
+    refuse_channels(0, ASTC_BLOCK_BYTES, bw, bh, numbers, texels - 1, ASTC_OUTPUT_TOO_SHORT);
+    refuse_channels(0, ASTC_BLOCK_BYTES, bw, bh, texels, texels, ASTC_OUTPUT_TOO_SHORT);
+    refuse_channels(0, ASTC_BLOCK_BYTES, bw, bh, 0, 0, ASTC_OUTPUT_TOO_SHORT);
+    for (size_t i = 0; i < sizeof OPTIONS / sizeof OPTIONS[0]; i++) {
+        refuse_channels(OPTIONS[i], ASTC_BLOCK_BYTES, bw, bh, numbers, texels, ASTC_OPTIONS);
+        refuse_channels(OPTIONS[i], ASTC_BLOCK_BYTES - 1, bw, bh, numbers, texels, ASTC_OPTIONS);
+        refuse_channels(OPTIONS[i], ASTC_BLOCK_BYTES, bw, bh, 0, 0, ASTC_OPTIONS);
+        refuse_channels(OPTIONS[i], 0, SIZE_MAX, bh, 0, 0, ASTC_OPTIONS);
     }
 }
 
@@ -225,27 +181,26 @@ static int listed(size_t bw, size_t bh) {
     return 0;
 }
 
-static void refuse_blocks(options o) {
+static void refuse_blocks(void) {
     for (size_t bw = 0; bw <= 20; bw++) {
         for (size_t bh = 0; bh <= 20; bh++) {
             for (size_t length = 0; length <= 33; length++) {
                 uint32_t answer = length != ASTC_BLOCK_BYTES ? ASTC_BLOCK_LENGTH : listed(bw, bh) ? ASTC_OUTPUT_TOO_SHORT : ASTC_FOOTPRINT;
-                refuse(decode_block, o, length, bw, bh, 0 < bw * bh ? bw * bh - 1 : 0, answer);
-                refuse(block_map, o, length, bw, bh, ASTC_MAP_NUMBERS - 1, answer);
-                refuse_channels(number_of(o), length, bw, bh, 0, 0, answer);
+                refuse(astc_decode_block, length, bw, bh, 0 < bw * bh ? bw * bh - 1 : 0, answer);
+                refuse(astc_block_map, length, bw, bh, ASTC_MAP_NUMBERS - 1, answer);
+                refuse_channels(0, length, bw, bh, 0, 0, answer);
             }
         }
     }
-    refuse(decode_block, o, ASTC_BLOCK_BYTES, SIZE_MAX, SIZE_MAX, 1, ASTC_FOOTPRINT);
-    refuse(decode_block, o, ASTC_BLOCK_BYTES, SIZE_MAX / 2 + 1, 2, 0, ASTC_FOOTPRINT);
-    refuse(decode_block, o, 0, 4, 4, 0, ASTC_BLOCK_LENGTH);
-    refuse(decode_block, o, ASTC_BLOCK_BYTES, 4, 4, 0, ASTC_OUTPUT_TOO_SHORT);
-    refuse(block_map, o, ASTC_BLOCK_BYTES, 12, 12, 0, ASTC_OUTPUT_TOO_SHORT);
+    refuse(astc_decode_block, ASTC_BLOCK_BYTES, SIZE_MAX, SIZE_MAX, 1, ASTC_FOOTPRINT);
+    refuse(astc_decode_block, ASTC_BLOCK_BYTES, SIZE_MAX / 2 + 1, 2, 0, ASTC_FOOTPRINT);
+    refuse(astc_decode_block, 0, 4, 4, 0, ASTC_BLOCK_LENGTH);
+    refuse(astc_decode_block, ASTC_BLOCK_BYTES, 4, 4, 0, ASTC_OUTPUT_TOO_SHORT);
+    refuse(astc_block_map, ASTC_BLOCK_BYTES, 12, 12, 0, ASTC_OUTPUT_TOO_SHORT);
 }
 
-/* An image of stored blocks, one beside the other, and the options by which it is called for. */
+/* An image of stored blocks, one beside the other. */
 struct image {
-    options o;
     size_t width, height, bw, bh;
     const uint8_t **records;
 };
@@ -253,11 +208,6 @@ struct image {
 static size_t blocks_a_row(const struct image *image) { return (image->width + image->bw - 1) / image->bw; }
 
 static size_t blocks_of(const struct image *image) { return blocks_a_row(image) * ((image->height + image->bh - 1) / image->bh); }
-
-/* The sizes of an image as they are right, with a step of so many blocks. */
-static struct sizes sizes_of(const struct image *image, size_t next, size_t pace) {
-    return (struct sizes){ASTC_BLOCK_BYTES * blocks_of(image), image->width, image->height, image->bw, image->bh, next, pace, image->width * image->height, ASTC_STEP_NUMBERS};
-}
 
 static uint8_t *data_of(const struct image *image) {
     size_t total = blocks_of(image);
@@ -279,9 +229,10 @@ static void hold_pixels(const struct image *image, const uint32_t *out) {
 }
 
 static void paint_whole(const struct image *image) {
+    size_t size = ASTC_BLOCK_BYTES * blocks_of(image), pixels = image->width * image->height;
     uint8_t *data = data_of(image);
-    uint32_t *out = fresh(4 * image->width * image->height);
-    uint32_t answer = decode_image(image->o, data, sizes_of(image, 0, 0), out);
+    uint32_t *out = fresh(4 * pixels);
+    uint32_t answer = astc_decode_image(data, size, image->width, image->height, image->bw, image->bh, out, pixels);
     hold(answer == ASTC_LEGAL, "the answer of an image");
     hold_pixels(image, out);
     free(out);
@@ -299,12 +250,13 @@ static uint64_t bad_between(const struct image *image, size_t start, size_t end)
 
 /* Paints the image in steps of so many blocks, and one more when all is painted. */
 static void paint_in_steps(const struct image *image, size_t pace) {
-    size_t total = blocks_of(image), next = 0, end;
+    size_t total = blocks_of(image), pixels = image->width * image->height, next = 0, end;
     uint8_t *data = data_of(image);
-    uint32_t *out = fresh(4 * image->width * image->height);
+    uint32_t *out = fresh(4 * pixels);
     do {
         uint64_t *moved = fresh(8 * ASTC_STEP_NUMBERS);
-        uint32_t answer = image_step(image->o, data, sizes_of(image, next, pace), out, moved);
+        uint32_t answer = astc_image_step(data, ASTC_BLOCK_BYTES * total, image->width, image->height, image->bw, image->bh, next, pace, out, pixels,
+                                          moved, ASTC_STEP_NUMBERS);
         hold(answer == ASTC_LEGAL, "the answer of a step");
         end = pace < total - next ? next + pace : total;
         hold(moved[ASTC_STEP_NEXT] == end && moved[ASTC_STEP_PAINTED] == end - next, "the next block of a step, or how many it painted");
@@ -319,11 +271,16 @@ static void paint_in_steps(const struct image *image, size_t pace) {
     free(data);
 }
 
-static void refuse_step(options o, struct sizes s, uint32_t answer) {
+/* The sizes of an image or a step that is refused. */
+struct sizes {
+    size_t length, width, height, bw, bh, next, blocks, room, places;
+};
+
+static void refuse_step(struct sizes s, uint32_t answer) {
     uint8_t *data = marked(s.length);
     uint32_t *out = marked(4 * s.room);
     uint64_t *moved = marked(8 * s.places);
-    hold(image_step(o, data, s, out, moved) == answer, "the answer of a refused step");
+    hold(astc_image_step(data, s.length, s.width, s.height, s.bw, s.bh, s.next, s.blocks, out, s.room, moved, s.places) == answer, "the answer of a refused step");
     if (s.places < ASTC_STEP_NUMBERS) {
         hold_marked(moved, 8 * s.places);
     } else {
@@ -336,20 +293,20 @@ static void refuse_step(options o, struct sizes s, uint32_t answer) {
 }
 
 /* An image, and a step with places for its numbers and with too few. */
-static void refuse_image(options o, struct sizes s, uint32_t answer) {
+static void refuse_image(struct sizes s, uint32_t answer) {
     uint8_t *data = marked(s.length);
     uint32_t *out = marked(4 * s.room);
-    hold(decode_image(o, data, s, out) == answer, "the answer of a refused image");
+    hold(astc_decode_image(data, s.length, s.width, s.height, s.bw, s.bh, out, s.room) == answer, "the answer of a refused image");
     hold_marked(out, 4 * s.room);
     free(data);
     refusals++;
     for (s.places = 0; s.places <= ASTC_STEP_NUMBERS; s.places++) {
-        refuse_step(o, s, answer);
+        refuse_step(s, answer);
     }
 }
 
 /* Sizes of three blocks by two, one of them wrong, or more with those that are looked at later. */
-static void refuse_images(options o, size_t bw, size_t bh) {
+static void refuse_images(size_t bw, size_t bh) {
     struct sizes right = {ASTC_BLOCK_BYTES * 6, 3 * bw - 1, bh + 1, bw, bh, 0, 1, (3 * bw - 1) * (bh + 1), ASTC_STEP_NUMBERS}, s;
     static const size_t FOREIGN[][2] = {{0, 4}, {4, 0}, {4, 5}, {13, 13}, {SIZE_MAX, SIZE_MAX}, {SIZE_MAX / 2 + 5, 4}};
     static const size_t LONG[][2] = {{0, 1}, {1, 0}, {4097, 1}, {1, 4097}, {SIZE_MAX, SIZE_MAX}, {SIZE_MAX / 2 + 1, 2}};
@@ -357,43 +314,36 @@ static void refuse_images(options o, size_t bw, size_t bh) {
         s = right;
         s.bw = FOREIGN[i][0];
         s.bh = FOREIGN[i][1];
-        refuse_image(o, s, ASTC_FOOTPRINT);
+        refuse_image(s, ASTC_FOOTPRINT);
     }
     for (size_t i = 0; i < sizeof LONG / sizeof LONG[0]; i++) {
         s = right;
         s.width = LONG[i][0];
         s.height = LONG[i][1];
-        refuse_image(o, s, ASTC_IMAGE_SIDE);
+        refuse_image(s, ASTC_IMAGE_SIDE);
     }
     for (s = right, s.length = 0; s.length <= right.length + ASTC_BLOCK_BYTES; s.length++) {
         if (s.length != right.length) {
-            refuse_image(o, s, ASTC_DATA_LENGTH);
+            refuse_image(s, ASTC_DATA_LENGTH);
         }
     }
     s = right;
     s.room--;
-    refuse_image(o, s, ASTC_OUTPUT_TOO_SHORT);
+    refuse_image(s, ASTC_OUTPUT_TOO_SHORT);
     s.room = 0;
-    refuse_image(o, s, ASTC_OUTPUT_TOO_SHORT);
+    refuse_image(s, ASTC_OUTPUT_TOO_SHORT);
     for (s = right, s.places = 0; s.places < ASTC_STEP_NUMBERS; s.places++) {
-        refuse_step(o, s, ASTC_OUTPUT_TOO_SHORT);
+        refuse_step(s, ASTC_OUTPUT_TOO_SHORT);
     }
     s = right;
     s.blocks = 0;
-    refuse_step(o, s, ASTC_NO_BLOCKS);
+    refuse_step(s, ASTC_NO_BLOCKS);
     s.next = 7;
-    refuse_step(o, s, ASTC_NO_BLOCKS);
+    refuse_step(s, ASTC_NO_BLOCKS);
     s.blocks = SIZE_MAX;
-    refuse_step(o, s, ASTC_PAST_THE_END);
+    refuse_step(s, ASTC_PAST_THE_END);
     s.next = SIZE_MAX;
-    refuse_step(o, s, ASTC_PAST_THE_END);
-}
-
-/* Options that are not taken, with right sizes and with all of them wrong. */
-static void refuse_image_options(uint32_t wrong, size_t bw, size_t bh) {
-    struct sizes right = {ASTC_BLOCK_BYTES, bw, bh, bw, bh, 0, 1, bw * bh, ASTC_STEP_NUMBERS}, all = {1, 0, SIZE_MAX, bw, 0, SIZE_MAX, 0, 0, ASTC_STEP_NUMBERS};
-    refuse_image(wrong, right, ASTC_OPTIONS);
-    refuse_image(wrong, all, ASTC_OPTIONS);
+    refuse_step(s, ASTC_PAST_THE_END);
 }
 
 static void paint_image(struct image image) {
@@ -405,71 +355,33 @@ static void paint_image(struct image image) {
 }
 
 /* Images of all blocks of a footprint: one of them all, with clipped edges, and small ones. */
-static void paint_images(options o, size_t bw, size_t bh, const uint8_t **records, size_t count) {
+static void paint_images(size_t bw, size_t bh, const uint8_t **records, size_t count) {
     const size_t small[][2] = {{1, 1}, {bw, bh}, {bw - 1, bh}, {bw, bh - 1}, {bw + 1, bh}, {bw, bh + 1}, {3 * bw - 1, 2 * bh - 1}, {1, 5 * bh}, {5 * bw, 1}};
     enum { WIDE = 10 };
     hold(count >= WIDE, "the list has too few blocks of a footprint");
-    paint_image((struct image){o, WIDE * bw - 1, count / WIDE * bh - 1, bw, bh, records});
+    paint_image((struct image){WIDE * bw - 1, count / WIDE * bh - 1, bw, bh, records});
     for (size_t i = 0; i < sizeof small / sizeof small[0]; i++) {
-        paint_image((struct image){o, small[i][0], small[i][1], bw, bh, records + i});
+        paint_image((struct image){small[i][0], small[i][1], bw, bh, records + i});
     }
 }
 
 /* All that a footprint has: its blocks one by one, as images, and images that are refused. */
-static void try_footprint(options o, size_t bw, size_t bh, const uint8_t *list, size_t size) {
+static void try_footprint(size_t bw, size_t bh, const uint8_t *list, size_t size) {
     const uint8_t **records = fresh(size); /* a record has more bytes than its pointer */
     size_t count = 0;
     for (const uint8_t *record = list; record < list + size; record += size_of(record)) {
         if (bw_of(record) == bw && bh_of(record) == bh) {
-            paint_block(o, record);
-            map_block(o, record);
-            channel_block(o, record);
+            paint_block(record);
+            map_block(record);
+            channel_block(record);
             records[count++] = record;
         }
     }
-    paint_images(o, bw, bh, records, count);
-    refuse_images(o, bw, bh);
-    refuse_rooms(number_of(o), bw, bh);
+    paint_images(bw, bh, records, count);
+    refuse_images(bw, bh);
+    refuse_options_and_rooms(bw, bh);
     blocks += count;
     free(records);
-}
-
-/* The 13 bits of a block from bit `start` on. */
-static uint32_t extent(const uint8_t *block, int start) {
-    uint32_t number = 0;
-    for (int i = 0; i < 13; i++) {
-        number |= (uint32_t)(block[(start + i) / 8] >> (start + i) % 8 & 1) << i;
-    }
-    return number;
-}
-
-/* Whether a void block keeps the standard's rules on its bits 10 to 63. */
-static int has_good_extent(const uint8_t *block) {
-    enum { ONES = 0x1fff };
-    uint32_t low_s = extent(block, 12), high_s = extent(block, 25), low_t = extent(block, 38), high_t = extent(block, 51);
-    int none = low_s == ONES && high_s == ONES && low_t == ONES && high_t == ONES;
-    return (block[1] & 12) == 12 && (none || (low_s < high_s && low_t < high_t));
-}
-
-static void put_word(uint8_t *record, size_t texel, uint32_t word) {
-    for (int i = 0; i < 4; i++) {
-        record[HEAD + 4 * texel + i] = (uint8_t)(word >> 8 * i);
-    }
-}
-
-/* Makes a record what it is in the standard's reading. A void block that breaks a rule there is magenta. The words of another are those
- * that are painted, since no list has them; alpha has no offset but that of mode 15, which both read alike, and must stay. */
-static void read_by_standard(uint8_t *record) {
-    size_t texels = texels_of(record);
-    uint32_t *words = fresh(4 * texels);
-    int bad = answer_of(record) == ASTC_VOID_EXTENT && !has_good_extent(block_of(record));
-    record[2] = bad ? ASTC_BAD_EXTENT : record[2];
-    astc_decode_block_with(ASTC_STANDARD_READING, block_of(record), ASTC_BLOCK_BYTES, bw_of(record), bh_of(record), words, texels);
-    for (size_t i = 0; i < texels; i++) {
-        hold(bad || words[i] >> 24 == word_of(record, i) >> 24, "an alpha of a block in the standard's reading");
-        put_word(record, i, bad ? 0xffff00ffu : words[i]);
-    }
-    free(words);
 }
 
 static uint8_t *read_list(const char *name, size_t *size) {
@@ -484,36 +396,16 @@ static uint8_t *read_list(const char *name, size_t *size) {
     return list;
 }
 
-/* All calls by these options, over the list as it is in their reading. */
-static void try_options(options o, const uint8_t *list, size_t size) {
-    uint8_t *own = copy(list, size);
-    if (o == ASTC_STANDARD_READING) {
-        for (uint8_t *record = own; record < own + size; record += size_of(record)) {
-            read_by_standard(record);
-        }
-    }
-    for (int i = 0; i < FOOTPRINTS; i++) {
-        try_footprint(o, SIDES[i][0], SIDES[i][1], own, size);
-    }
-    refuse_blocks(o);
-    free(own);
-}
-
 int main(int argc, char **argv) {
     size_t size;
     uint8_t *list;
     hold(argc == 2, "the stored list was not named");
     list = read_list(argv[1], &size);
-    for (int i = 0; i < TAKEN_COUNT; i++) {
-        try_options(TAKEN[i], list, size);
+    for (int i = 0; i < FOOTPRINTS; i++) {
+        try_footprint(SIDES[i][0], SIDES[i][1], list, size);
     }
-    for (int i = 0; i < FOOTPRINTS * WRONG_COUNT; i++) {
-        const uint8_t *sides = SIDES[i / WRONG_COUNT];
-        refuse_options(WRONG[i % WRONG_COUNT], sides[0], sides[1]);
-        refuse_image_options(WRONG[i % WRONG_COUNT], sides[0], sides[1]);
-    }
+    refuse_blocks();
     free(list);
-    printf("without options, with 0 and in the standard's reading together: %lu blocks, maps and channels, %lu images at once, %lu steps\n", blocks, images, steps);
-    printf("%lu refused calls, also by %d other options\n", refusals, WRONG_COUNT);
+    printf("%lu blocks, maps and channels, %lu images at once, %lu steps, %lu refused calls\n", blocks, images, steps, refusals);
     return 0;
 }

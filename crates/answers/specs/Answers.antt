@@ -31,9 +31,6 @@ too_many_values = 15
 abbrev pub too_little_room : ℕ
 too_little_room = 16
 
-abbrev pub bad_extent : ℕ
-bad_extent = 17
-
 -- ---- a call that is refused: nothing is written
 abbrev pub block_length : ℕ
 block_length = 20

@@ -22,8 +22,6 @@ pub const TOO_MANY_VALUES: usize = 15;
 
 pub const TOO_LITTLE_ROOM: usize = 16;
 
-pub const BAD_EXTENT: usize = 17;
-
 // A call that is refused: nothing is written.
 pub const BLOCK_LENGTH: usize = 20;
 

@@ -1,69 +1,30 @@
 -- The ways out of the checks, and what each tells.
 -- Assumes nothing.
-use Rattle.std.specs.Prelude.{◌≡◌, refl, Bool, true, false, cond, List, eqb, ltb}
+use Rattle.std.specs.Prelude.{◌≡◌, refl, Bool, true, false, cond, eqb, ltb}
 use Rattle.std.proofs.Common.{sym, ◌∙◌, suc-ne-zero, arith}
 use Rattle.std.proofs.lemmas.Bool.{false≢true}
-use Prim.Native.Nat.{ℕ, ◌%◌, ◌≤◌, ◌<◌}
+use Prim.Native.Nat.{ℕ, ◌≤◌, ◌<◌}
 use Rattle.std.proofs.Math.Decide.{dec_lt}
 use borrow.Author.Tests.{eq-eqb, ne_eqb, lt-ltb, le-ltb}
 use Rattle.laws.specs.Numbers.{choice}
-use Rattle.options.specs.Base.{base}
-use Rattle.options.specs.declared.Options.{Options}
-use Rattle.options.specs.declared.Reading.TheVariants.{Crate, Standard}
 use Rattle.image_shape.specs.Shapes.{refusal_of}
 use Rattle.image_shape.specs.ShapeLaws.{refusal-small}
 use Rattle.image_shape.specs.declared.Shape.{Shape}
-use Rattle.astc_checks.specs.Checks.{options_refusal, options_in, answer_by, left_by, places_refusal}
+use Rattle.astc_checks.specs.Checks.{options_refusal, places_refusal}
 
 -- ---- options
-module _ (n : ℕ) where
-  pub options-23 : 1 < n → 23 ≡ options_refusal n
+module _ (options : ℕ) where
+  pub options-23 : (options ≡ 0 → ⊥) → 23 ≡ options_refusal options
   unfolding options_refusal
-  options-23 h = rw (lt-ltb 1 n h)
+  options-23 n = rw (ne_eqb options 0 n)
 
-  pub options-0 : n ≤ 1 → 0 ≡ options_refusal n
+  pub options-0 : options ≡ 0 → 0 ≡ options_refusal options
   unfolding options_refusal
-  options-0 h = rw (le-ltb 1 n h)
+  options-0 z = rw (eq-eqb options 0 z)
 
-  pub options-small : options_refusal n < 24
+  pub options-small : options_refusal options < 24
   unfolding options_refusal
-  options-small = choice (ltb 1 n) 23 0 (omega arith) (omega arith)
-
-  pub options-odd : n % 2 ≡ 1 → record { reading = Standard } ≡ options_in n
-  unfolding options_in
-  options-odd e = rw e
-
-  pub options-even : (n % 2 ≡ 1 → ⊥) → record { reading = Crate } ≡ options_in n
-  unfolding options_in
-  options-even e = rw (ne_eqb (n % 2) 1 e)
-
-  -- a call by the number, r being why its options are refused
-  module _ (r : ℕ) (e : r ≡ options_refusal n) where
-    pub answer-refused : (call : Options → ℕ) → (r ≡ 0 → ⊥) → r ≡ answer_by n call
-    unfolding answer_by
-    answer-refused call x = rw (sym e, ne_eqb r 0 x)
-
-    pub left-refused : (call : Options → List ℕ) (out : List ℕ) → (r ≡ 0 → ⊥) → out ≡ left_by n call out
-    unfolding left_by
-    left-refused call out x = rw (sym e, ne_eqb r 0 x)
-
-    module _ (z : r ≡ 0) (o : Options) (f : o ≡ options_in n) where
-      pub answer-given : (call : Options → ℕ) (a : ℕ) → a ≡ call o → a ≡ answer_by n call
-      unfolding answer_by
-      answer-given call a g = g ∙ rw (sym e, z, f)
-
-      pub left-given : (call : Options → List ℕ) (out now : List ℕ) → now ≡ call o → now ≡ left_by n call out
-      unfolding left_by
-      left-given call out now g = g ∙ rw (sym e, z, f)
-
--- no options
-pub answer-none : (call : Options → ℕ) → answer_by 0 call ≡ call base
-unfolding answer_by options_refusal options_in
-answer-none call = refl
-
-pub left-none : (call : Options → List ℕ) (out : List ℕ) → left_by 0 call out ≡ call base
-unfolding left_by options_refusal options_in
-left-none call out = refl
+  options-small = choice (eqb options 0) 0 23 (omega arith) (omega arith)
 
 -- ---- places
 module _ (m : Shape) (len room places : ℕ) where

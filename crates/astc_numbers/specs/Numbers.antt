@@ -20,7 +20,3 @@ map_in m out = cond (ltb (map_answer_in m (length out)) block_length) (put (λ (
 -- a step's next block, the blocks painted, and how many of them break a rule
 unfoldable pub led_to : ℕ → ℕ → ℕ → List ℕ
 led_to next painted bad = next ∷ painted ∷ bad ∷ []
-
--- in an output that was `moved`, where it has places for them
-unfoldable pub led_in : ℕ → ℕ → ℕ → List ℕ → List ℕ
-led_in next painted bad moved = cond (ltb (length moved) 3) moved (put (λ (k : ℕ). get_or (led_to next painted bad) k 0) 0 3 moved)

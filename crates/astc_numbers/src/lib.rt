@@ -1,12 +1,12 @@
 // What C reads beside words: the map of a block as nine numbers, and where a step led as three.
 ghost use Rattle.std.specs.Prelude.{◌≡◌, ℕ, ◌≤◌, get_or, length};
 ghost use Rattle.laws.specs.Lists.{put};
-ghost use Rattle.block_map.specs.Answer.{block_map_with};
+ghost use Rattle.footprint.specs.Footprints.{footprint};
+ghost use Rattle.block_map.specs.Answer.{block_map};
 ghost use Rattle.block_map.specs.AnswerLaws.{MapBounds};
-ghost use Rattle.astc_numbers.specs.Numbers.{numbers_of, map_answer_in, map_in, led_in};
+ghost use Rattle.astc_numbers.specs.Numbers.{numbers_of, map_answer_in, map_in, led_to};
 
 use footprint::Footprint;
-use options::Options;
 use params_map::BlockMap;
 
 fn numbers_of(m: BlockMap) -> [u32; 9]
@@ -38,14 +38,20 @@ fn put_numbers(out: &mut [u32], n: &[u32; 9])
     }
 }
 
-// Puts the map of a block by options into the first nine places of `map`, and gives the answer.
-pub fn put_map(o: Options, block: &[u8], f: Footprint, map: &mut [u32]) -> usize
+// Puts the map of a block at the footprint bw by bh into the first nine places of `map`, and gives
+// the answer.
+pub fn put_map(block: &[u8], bw: usize, bh: usize, map: &mut [u32]) -> usize
     ensures value { result ≡
-        map_answer_in (block_map_with o block.now f) (length map.old) }
+        map_answer_in (block_map block.now (footprint bw bh))
+        (length map.old) }
     ensures map_after { map.new ≡
-        map_in (block_map_with o block.now f) map.old }
+        map_in (block_map block.now (footprint bw bh)) map.old }
 {
-    let m = block_map::block_map_with(o, block, f);
+    let f = Footprint {
+        width: bw,
+        height: bh,
+    };
+    let m = block_map::block_map(block, f);
     if m.answer >= answers::BLOCK_LENGTH {
         return m.answer;
     }
@@ -58,13 +64,12 @@ pub fn put_map(o: Options, block: &[u8], f: Footprint, map: &mut [u32]) -> usize
 }
 
 // Puts a step's next block, the blocks painted and those of them that break a rule into the first
-// three places of `moved`; with fewer places, nothing.
+// three places of `moved`.
 pub fn put_led(moved: &mut [u64], next: usize, painted: usize, bad: usize)
-    ensures { moved.new ≡ led_in next painted bad moved.old }
+    requires { 3 ≤ length moved.old }
+    ensures { moved.new ≡
+        put (λ (k : ℕ). get_or (led_to next painted bad) k 0) 0 3 moved.old }
 {
-    if moved.len() < 3 {
-        return;
-    }
     moved[0] = next as u64;
     moved[1] = painted as u64;
     moved[2] = bad as u64;

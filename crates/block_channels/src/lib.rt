@@ -1,20 +1,19 @@
 // The channels of a block's texels, bytes and floats: those of all texels as C reads them, and
 // those of one texel by value.
-ghost use Rattle.std.specs.Prelude.{◌≡◌, true, ◌*◌, ◌≤◌, ◌<◌, length};
+ghost use Rattle.std.specs.Prelude.{◌≡◌, true, false, ◌*◌, ◌≤◌, ◌<◌, length};
 ghost use Rattle.laws.specs.Lists.{put};
 ghost use Rattle.footprint.specs.Footprints.{texels_of, listed};
 ghost use Rattle.bits.specs.Blocks.{value_of};
+ghost use Rattle.params_low.specs.Low.{is_void};
 ghost use Rattle.block_ordinary.specs.Ordinary.{block_answer, lanes_in};
-ghost use Rattle.block_map.specs.Answer.{answer_of, answer_with};
+ghost use Rattle.block_map.specs.Answer.{answer_of};
 ghost use Rattle.block.specs.Block.{block_bits};
-ghost use Rattle.block_channels.specs.BlockChannels.{number_at, marks_at, answered_at, room_of, numbers_of, numbers_with, marks_in, marks_with, refused_by, texel_answered, texel_answered_with};
+ghost use Rattle.block_channels.specs.BlockChannels.{magenta_samples, number_at, marks_at, answered_at, room_of, numbers_of, marks_in, refused_by, texel_answered};
 
 use bits::Block;
-use block_ordinary::Task;
 use channels::{Sample, Samples, Texel, texel_of};
 use footprint::Footprint;
 use lanes::{Form, LANES};
-use options::Options;
 
 // A block's answer, and the channels of one of its texels; a refusal has bytes of 0.
 #[derive(Drop)]
@@ -23,61 +22,70 @@ pub struct Answered {
     pub texel: Texel,
 }
 
-// Puts the samples of a legal block at a listed footprint into lanes, and gives the block's answer.
-fn decode_samples(o: Options, b: Block, f: Footprint, lanes: &mut [u16; LANES]) -> usize
-    requires { listed f ≡ true }
-    ensures value { result ≡ block_answer o (value_of b) f }
-    ensures lanes_after { lanes.new ≡ lanes_in Form.Samples o (value_of b) f lanes.old }
+// What a block that breaks a rule is painted with.
+fn magenta() -> Samples
+    ensures { result ≡ magenta_samples }
+{
+    Samples {
+        r: Sample::Byte(255),
+        g: Sample::Byte(0),
+        b: Sample::Byte(255),
+        a: Sample::Byte(255),
+    }
+}
+
+// Puts the samples of a legal block that is not void, at a listed footprint, into lanes, and gives
+// the block's answer.
+fn decode_samples(b: Block, f: Footprint, lanes: &mut [u16; LANES]) -> usize
+    requires { (is_void (value_of b) ≡ false) × (listed f ≡ true) }
+    ensures value { result ≡ block_answer (value_of b) f }
+    ensures lanes_after { lanes.new ≡ lanes_in Form.Samples (value_of b) f lanes.old }
 {
     let tables = block_tables::make_tables();
-    let task = Task {
-        options: o,
-        form: Form::Samples,
-    };
-    block_ordinary::decode_ordinary(&tables.trits, &tables.quints, b, f, lanes, task)
+    block_ordinary::decode_ordinary(&tables.trits, &tables.quints, b, f, lanes, Form::Samples)
 }
 
 // Puts the numbers and the marks of a block at a listed footprint, and gives the answer.
-fn put_block(o: Options, s: &[u8], f: Footprint, out: &mut [u32], floats: &mut [u8]) -> usize
+fn put_block(s: &[u8], f: Footprint, out: &mut [u32], floats: &mut [u8]) -> usize
     requires { (length s.now ≡ 16) × (listed f ≡ true) × (4 * texels_of f ≤ length out.old) ×
         (texels_of f ≤ length floats.old) }
-    ensures { (result ≡ block_answer o (block_bits s.now) f) ×
-        (out.new ≡ put (number_at o s.now f) 0 (4 * texels_of f) out.old)
+    ensures { (result ≡ block_answer (block_bits s.now) f) ×
+        (out.new ≡ put (number_at s.now f) 0 (4 * texels_of f) out.old)
         × (floats.new ≡
-        put (marks_at o s.now f) 0 (texels_of f) floats.old) }
+        put (marks_at s.now f) 0 (texels_of f) floats.old) }
 {
     let n = f.width * f.height;
     let b = block_load::load(s);
-    let a = block_void::void_answer(o, b);
+    let a = block_void::void_answer(b);
     if a == answers::VOID_EXTENT {
-        texels_numbers::fill_texels(out, floats, n, block_void::samples_of(a, b));
+        texels_numbers::fill_texels(out, floats, n, block_void::void_samples(b));
         return a;
     }
     let mut lanes = [0u16; LANES];
-    let answer = decode_samples(o, b, f, &mut lanes);
+    let answer = decode_samples(b, f, &mut lanes);
     if answer == answers::LEGAL {
         texels_numbers::put_texels(out, floats, n, &lanes);
         return answers::LEGAL;
     }
-    texels_numbers::fill_texels(out, floats, n, block_void::samples_of(answer, b));
+    texels_numbers::fill_texels(out, floats, n, magenta());
     answer
 }
 
 // The answer and the channels of texel t of a block at a listed footprint.
-fn texel_at(o: Options, s: &[u8], f: Footprint, t: usize) -> Answered
+fn texel_at(s: &[u8], f: Footprint, t: usize) -> Answered
     requires { (length s.now ≡ 16) × (listed f ≡ true) × (t < texels_of f) }
-    ensures { result ≡ answered_at o s.now f t }
+    ensures { result ≡ answered_at s.now f t }
 {
     let b = block_load::load(s);
-    let a = block_void::void_answer(o, b);
+    let a = block_void::void_answer(b);
     if a == answers::VOID_EXTENT {
         return Answered {
             answer: a,
-            texel: texel_of(block_void::samples_of(a, b)),
+            texel: texel_of(block_void::void_samples(b)),
         };
     }
     let mut lanes = [0u16; LANES];
-    let answer = decode_samples(o, b, f, &mut lanes);
+    let answer = decode_samples(b, f, &mut lanes);
     if answer == answers::LEGAL {
         return Answered {
             answer: answers::LEGAL,
@@ -86,7 +94,7 @@ fn texel_at(o: Options, s: &[u8], f: Footprint, t: usize) -> Answered
     }
     Answered {
         answer,
-        texel: texel_of(block_void::samples_of(answer, b)),
+        texel: texel_of(magenta()),
     }
 }
 
@@ -103,29 +111,6 @@ fn room_of(places: usize, marks: usize) -> usize
 // Puts four numbers a texel into `out`, red, green, blue and alpha, bytes or the bits of floats,
 // and into `floats` which of them are floats; gives the answer. A refusal leaves both outputs as
 // they were.
-pub fn decode_channels_with(
-    o: Options,
-    s: &[u8],
-    f: Footprint,
-    out: &mut [u32],
-    floats: &mut [u8],
-) -> usize
-    ensures { (result ≡
-        answer_with o s.now f
-        (room_of (length out.old) (length floats.old))) ×
-        (out.new ≡
-        numbers_with o s.now f (length floats.old) out.old) ×
-        (floats.new ≡
-        marks_with o s.now f (length out.old) floats.old) }
-{
-    let a = block_refusal::refusal(s.len(), f, room_of(out.len(), floats.len()));
-    if a != 0 {
-        return a;
-    }
-    put_block(o, s, f, out, floats)
-}
-
-// The same without options.
 pub fn decode_channels(s: &[u8], f: Footprint, out: &mut [u32], floats: &mut [u8]) -> usize
     ensures { (result ≡
         answer_of s.now f
@@ -135,7 +120,11 @@ pub fn decode_channels(s: &[u8], f: Footprint, out: &mut [u32], floats: &mut [u8
         (floats.new ≡
         marks_in s.now f (length out.old) floats.old) }
 {
-    decode_channels_with(options::no_options(), s, f, out, floats)
+    let a = block_refusal::refusal(s.len(), f, room_of(out.len(), floats.len()));
+    if a != 0 {
+        return a;
+    }
+    put_block(s, f, out, floats)
 }
 
 // What a refused call for one texel answers: its number, and bytes of 0.
@@ -154,19 +143,12 @@ fn refused(answer: usize) -> Answered
 }
 
 // The answer of a block and the channels of its texel t, of those that are counted row by row.
-pub fn texel_channels_with(o: Options, s: &[u8], f: Footprint, t: usize) -> Answered
-    ensures { result ≡ texel_answered_with o s.now f t }
+pub fn texel_channels(s: &[u8], f: Footprint, t: usize) -> Answered
+    ensures { result ≡ texel_answered s.now f t }
 {
     let a = block_refusal::texel_refusal(s.len(), f, t);
     if a != 0 {
         return refused(a);
     }
-    texel_at(o, s, f, t)
-}
-
-// The same without options.
-pub fn texel_channels(s: &[u8], f: Footprint, t: usize) -> Answered
-    ensures { result ≡ texel_answered s.now f t }
-{
-    texel_channels_with(options::no_options(), s, f, t)
+    texel_at(s, f, t)
 }

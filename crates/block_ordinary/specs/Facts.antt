@@ -3,7 +3,6 @@
 use Rattle.std.specs.Prelude.{◌≡◌, refl, true, ℕ, zero, suc, ◌/◌, ◌≤◌, ◌<◌, get_or}
 use Rattle.std.proofs.Common.{sym, ap, ◌∙◌, arith}
 use Rattle.sequence_ranges.specs.Ranges.{range_of, total_of}
-use Rattle.options.specs.declared.Options.{Options}
 use Rattle.footprint.specs.Footprints.{listed}
 use Rattle.footprint.specs.Sides.{Sides, sides-of}
 use Rattle.footprint.specs.declared.Footprint.{Footprint}
@@ -55,17 +54,17 @@ pub record Ready (p : Params) (foot : Footprint) : Type 0 where
   pub fits : Fits (grid_of p foot)
   pub sides : Sides foot
 
-pub ready : (p : Params) (o : Options) (v : ℕ) (foot : Footprint) → p ≡ params_of o v foot → p.answer ≡ 0 → listed foot ≡ true → Ready p foot
+pub ready : (p : Params) (v : ℕ) (foot : Footprint) → p ≡ params_of v foot → p.answer ≡ 0 → listed foot ≡ true → Ready p foot
 unfolding legal config_of partitions_of cost
-ready p o v foot e z s =
+ready p v foot e z s =
     let t = fields_of v in
-    let a : answer o t foot ≡ 0 = sym (answer-is o t foot) ∙ ap (λ (q : Params). q.answer) (sym e) ∙ z in
+    let a : answer t foot ≡ 0 = sym (answer-is t foot) ∙ ap (λ (q : Params). q.answer) (sym e) ∙ z in
     let f = sides-of foot s in
     let c = t.low in
     let k = small c in
-    let l = (ordinary o t foot a).rules in
+    let l = (ordinary t foot a).rules in
     let w = range-is _ foot l in
-    rw (e, legal-is o t foot a)
+    rw (e, legal-is t foot a)
     (record {
       facts = record {
         width = k.width;

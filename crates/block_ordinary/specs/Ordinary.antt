@@ -5,7 +5,6 @@ use Rattle.std.specs.Prelude.{cond, List, ℕ, ◌*◌, eqb, replicate}
 use Rattle.laws.specs.Lists.{put}
 use Rattle.sequence_ranges.specs.Ranges.{range_of}
 use Rattle.sequence_groups.specs.Sequence.{values_of}
-use Rattle.options.specs.declared.Options.{Options}
 use Rattle.footprint.specs.Footprints.{texels_of, most_texels}
 use Rattle.footprint.specs.declared.Footprint.{Footprint}
 use Rattle.lanes.specs.Lanes.{lane_at, eights}
@@ -27,7 +26,7 @@ use Rattle.texels.specs.Samples.{texel_lane, samples_in}
 -- ---- a legal block, of its parameters p and two more fields
 -- the endpoints of its partitions, from the endpoint field
 unfoldable pub ends_of : Params → ℕ → List Endpoints
-ends_of p field = endpoints_list p.options.reading p.config.parts p.modes (endpoint_values p.endpoint_range (values_of (range_of p.endpoint_range) field p.config.values))
+ends_of p field = endpoints_list p.config.parts p.modes (endpoint_values p.endpoint_range (values_of (range_of p.endpoint_range) field p.config.values))
 
 abbrev pub grid_of : Params → Footprint → Grid
 grid_of p foot = record { footprint = foot; width = p.config.width; height = p.config.height; planes = p.config.planes }
@@ -61,8 +60,8 @@ ordinary_lane p v foot t k =
 
 -- ---- the code's step
 -- what the block answers at a listed footprint
-abbrev pub block_answer : Options → ℕ → Footprint → ℕ
-block_answer o v foot = answer o (fields_of v) foot
+abbrev pub block_answer : ℕ → Footprint → ℕ
+block_answer v foot = answer (fields_of v) foot
 
 -- the lanes h with those of a legal block's texels, to the next multiple of 8: their words, or their samples
 abbrev pub form_of : Form → Params → ℕ → Footprint → List ℕ → List ℕ
@@ -70,11 +69,11 @@ form_of Words p v foot h = put (lane_at (ordinary_word p v foot)) 0 (2 * eights 
 form_of Samples p v foot h = samples_in (texels_of foot) (ordinary_lane p v foot) h
 
 -- the same of any block: one that is not legal puts none
-unfoldable pub lanes_in : Form → Options → ℕ → Footprint → List ℕ → List ℕ
-lanes_in form o v foot h =
-    let p = params_of o v foot in
+unfoldable pub lanes_in : Form → ℕ → Footprint → List ℕ → List ℕ
+lanes_in form v foot h =
+    let p = params_of v foot in
     cond (eqb p.answer 0) (form_of form p v foot h) h
 
 -- those of words
-abbrev pub lanes_of : Options → ℕ → Footprint → List ℕ → List ℕ
-lanes_of o v foot h = lanes_in Words o v foot h
+abbrev pub lanes_of : ℕ → Footprint → List ℕ → List ℕ
+lanes_of v foot h = lanes_in Words v foot h

@@ -17,7 +17,6 @@ use Rattle.sequence_ranges.specs.RangeLaws.{legal}
 use Rattle.sequence_ranges.specs.declared.Range.{Range}
 use Rattle.sequence_groups.specs.Sequence.{values_of}
 use Rattle.sequence_groups.specs.SequenceLaws.{values-lt, values-past}
-use Rattle.options.specs.declared.Options.{Options}
 use Rattle.footprint.specs.Footprints.{texels_of, most_texels, most_weights}
 use Rattle.footprint.specs.declared.Footprint.{Footprint}
 use Rattle.lanes.specs.Lanes.{lane_at, eights}
@@ -58,7 +57,7 @@ past w n r seq d i h = rw d (values-past r w n i h)
 module _ (p : Params) (v : ℕ) (f : Facts p) (r : Range) (seq : List ℕ) where
   -- ---- the endpoints
   pub ends_is : (ev : List ℕ) (e : List Endpoints) → r ≡ range_of p.endpoint_range → seq ≡ values_of r (bits_at v p.config.low_len (total_of r p.config.values)) p.config.values
-      → ev ≡ endpoint_values p.endpoint_range seq → e ≡ endpoints_list p.options.reading p.config.parts p.modes ev → e ≡ ends_of p (ends_field p v)
+      → ev ≡ endpoint_values p.endpoint_range seq → e ≡ endpoints_list p.config.parts p.modes ev → e ≡ ends_of p (ends_field p v)
   unfolding ends_of
   ends_is ev e a b c d = d ∙ rw (c, b, a, f.ends-len)
 
@@ -99,7 +98,7 @@ module _ (p : Params) (foot : Footprint) (f : Facts p) where
   pub ends-within : (field i : ℕ) → InLimits (get_or (ends_of p field) i nothing)
   unfolding ends_of
   ends-within field i =
-      partition-within p.options.reading p.config.parts p.modes _ (endpoint-values-lt p.endpoint_range _ f.most (values-lt (range_of p.endpoint_range) field p.config.values)) i
+      partition-within p.config.parts p.modes _ (endpoint-values-lt p.endpoint_range _ f.most (values-lt (range_of p.endpoint_range) field p.config.values)) i
 
   pub weights-light : (field i : ℕ) → get_or (weights_in p foot field) i 0 ≤ 64
   unfolding weights_in
@@ -142,14 +141,14 @@ module _ (p : Params) (v : ℕ) (foot : Footprint) (n : ℕ) (ends : List Endpoi
   samples-put q d = d ∙ rw (q, a, b, c, e)
 
 -- ---- the code has put the lanes of a legal block, or none
-module _ (p : Params) (o : Options) (v : ℕ) (foot : Footprint) (q : p ≡ params_of o v foot) where
-  pub answer-told : p.answer ≡ answer o (fields_of v) foot
-  answer-told = ap (λ (x : Params). x.answer) q ∙ answer-is o (fields_of v) foot
+module _ (p : Params) (v : ℕ) (foot : Footprint) (q : p ≡ params_of v foot) where
+  pub answer-told : p.answer ≡ answer (fields_of v) foot
+  answer-told = ap (λ (x : Params). x.answer) q ∙ answer-is (fields_of v) foot
 
-  pub lanes-legal : (form : Form) (s out : List ℕ) → p.answer ≡ 0 → out ≡ form_of form p v foot s → out ≡ lanes_in form o v foot s
+  pub lanes-legal : (form : Form) (s out : List ℕ) → p.answer ≡ 0 → out ≡ form_of form p v foot s → out ≡ lanes_in form v foot s
   unfolding lanes_in
   lanes-legal form s out z d = rw (← q, eq-eqb p.answer 0 z) d
 
-  pub lanes-none : (form : Form) (s : List ℕ) → (p.answer ≡ 0 → ⊥) → s ≡ lanes_in form o v foot s
+  pub lanes-none : (form : Form) (s : List ℕ) → (p.answer ≡ 0 → ⊥) → s ≡ lanes_in form v foot s
   unfolding lanes_in
   lanes-none form s n = rw (← q, ne_eqb p.answer 0 n)

@@ -1,10 +1,11 @@
-// A legal block: from its fields to the lanes of its texels.
-ghost use Rattle.std.specs.Prelude.{◌≡◌, true, replicate};
+// A block that is not void: from its fields to the lanes of its texels.
+ghost use Rattle.std.specs.Prelude.{◌≡◌, true, false, replicate};
 ghost use Rattle.bits.specs.Blocks.{value_of};
 ghost use Rattle.sequence_ranges.specs.Digits.{trit_table, quint_table};
 ghost use Rattle.footprint.specs.Footprints.{most_texels, most_weights, listed};
 ghost use Rattle.footprint.specs.Sides.{Sides};
 ghost use Rattle.block_tables.specs.Tables.{Lent};
+ghost use Rattle.params_low.specs.Low.{is_void};
 ghost use Rattle.params.specs.Params.{ends_field, weights_field};
 ghost use Rattle.block_ordinary.specs.Ordinary.{block_answer, ends_of, weights_in, partitions_in, form_of, lanes_in};
 ghost use Rattle.block_ordinary.specs.Facts.{Facts, Ready};
@@ -13,7 +14,6 @@ use bits::Block;
 use endpoints_colours::Endpoints;
 use footprint::{Footprint, TEXELS, WEIGHTS};
 use lanes::{Form, LANES};
-use options::Options;
 use params::Params;
 use weights_grid::Grid;
 
@@ -37,9 +37,7 @@ fn ends_of(trits: &[u16; 256], quints: &[u16; 128], b: Block, p: Params) -> [End
     );
     let mut ev = [0u8; 32];
     endpoints_unquantise::unquantize(&mut ev, k.values, range, &seq);
-    let o = p.options;
-    let reading = o.reading;
-    endpoints::decode_endpoints(reading, k.parts, modes, &ev)
+    endpoints::decode_endpoints(k.parts, modes, &ev)
 }
 
 // Puts the weights of a legal block's texels into out, which is all 0.
@@ -150,13 +148,6 @@ fn put_ordinary(
     }
 }
 
-// How a block is to be decoded, and what is to be put.
-#[derive(Drop)]
-pub struct Task {
-    pub options: Options,
-    pub form: Form,
-}
-
 // Reads the parameters of a block at a listed footprint, puts its lanes if it is legal, and gives
 // the answer.
 fn put_if_legal<'a>(
@@ -165,15 +156,15 @@ fn put_if_legal<'a>(
     b: Block,
     f: Footprint,
     lanes: &mut [u16; LANES],
-    task: Task,
+    form: Form,
 ) -> usize
     requires lent { Lent trits.now quints.now }
+    requires b_value { is_void (value_of b) ≡ false }
     requires f_value { listed f ≡ true }
-    ensures value { result ≡ block_answer task.options (value_of b) f }
-    ensures lanes_after { lanes.new ≡ lanes_in task.form task.options (value_of b) f lanes.old }
+    ensures value { result ≡ block_answer (value_of b) f }
+    ensures lanes_after { lanes.new ≡ lanes_in form (value_of b) f lanes.old }
 {
-    let form = task.form;
-    let p = params::decode_block_params(task.options, b, f);
+    let p = params::decode_block_params(b, f);
     let a = p.answer;
     if a == answers::LEGAL {
         put_ordinary(trits, quints, b, p, f, lanes, form);
@@ -191,17 +182,18 @@ pub fn decode_ordinary<'a>(
     b: Block,
     f: Footprint,
     lanes: &mut [u16; LANES],
-    task: Task,
+    form: Form,
 ) -> usize
     requires lent { Lent trits.now quints.now }
+    requires b_value { is_void (value_of b) ≡ false }
     requires f_value { listed f ≡ true }
-    ensures value { result ≡ block_answer task.options (value_of b) f }
-    ensures lanes_after { lanes.new ≡ lanes_in task.form task.options (value_of b) f lanes.old }
+    ensures value { result ≡ block_answer (value_of b) f }
+    ensures lanes_after { lanes.new ≡ lanes_in form (value_of b) f lanes.old }
 {
     let own = Block { lo: b.lo, hi: b.hi };
     let foot = Footprint {
         width: f.width,
         height: f.height,
     };
-    put_if_legal(trits, quints, own, foot, lanes, task)
+    put_if_legal(trits, quints, own, foot, lanes, form)
 }

@@ -7,7 +7,6 @@ use Rattle.std.proofs.Math.Nat.{mul-le-mul}
 use native.Mathlib.Omega.{arith}
 use Rattle.std.proofs.Common.{lit<}
 use Rattle.std.proofs.lemmas.Bool.{eqb-false}
-use Rattle.options.specs.declared.Reading.{Reading}
 use Rattle.endpoints_colours.specs.Colours.{ldr, nothing}
 use Rattle.endpoints_colours.specs.Bounds.{limit, InLimits}
 use Rattle.endpoints_rules.specs.Ldr.{offset_of, clamped_pair, luminance, luminance_offset, luminance_alpha_offset, scaled, direct, offset}
@@ -128,9 +127,9 @@ seven-under m c s = go (eqb m 5)
     go true = record { r = omega arith; g = omega arith; b = omega arith }
     go false = record { r = omega arith; g = omega arith; b = omega arith }
 
-eleven-first-under : (r : Reading) (m : ℕ) (v : Values) → UnderHdr (eleven_first r m v)
+eleven-first-under : (m : ℕ) (v : Values) → UnderHdr (eleven_first m v)
 unfolding eleven_first under
-eleven-first-under r m v = record { r = cut _ _; g = cut _ _; b = cut _ _ }
+eleven-first-under m v = record { r = cut _ _; g = cut _ _; b = cut _ _ }
   where
     cut : (x y : ℕ) → less x y < 4096
     cut x y = omega arith
@@ -164,11 +163,11 @@ module _ (v : Values) (h : Bytes v) where
   unfolding hdr7
   seven-within = within-hdr (swapped-under _ (seven-under _ _ _)) (swapped-under _ (seven-under _ _ _)) opaque-within
 
-  eleven-within : (r : Reading) (t : Alphas) → AlphasWithin t → InLimits (hdr11 r v t)
+  eleven-within : (t : Alphas) → AlphasWithin t → InLimits (hdr11 v t)
   unfolding hdr11
-  eleven-within r t s =
+  eleven-within t s =
       within-cond (eqb (eleven_major v) 3) (within-hdr (record { r = omega arith; g = omega arith; b = omega arith }) (record { r = omega arith; g = omega arith; b = omega arith }) s)
-      (within-hdr (swapped-under _ (eleven-first-under r _ v)) (swapped-under _ (eleven-second-under _ v)) s)
+      (within-hdr (swapped-under _ (eleven-first-under _ v)) (swapped-under _ (eleven-second-under _ v)) s)
 
   plain-alphas-within : AlphasWithin (plain_alphas v)
   plain-alphas-within = record { first = h.v6; second = h.v7 }
@@ -196,11 +195,11 @@ every-at [] p i = record { r0 = lit< tt; g0 = lit< tt; b0 = lit< tt; a0 = lit< t
 every-at (e ∷ es) p zero = p.0
 every-at (e ∷ es) p (suc i) = every-at es p.1 i
 
-pub mode-within : (r : Reading) (m : ℕ) (v : Values) → Bytes v → InLimits (endpoints_of r m v)
+pub mode-within : (m : ℕ) (v : Values) → Bytes v → InLimits (endpoints_of m v)
 unfolding endpoints_of by_mode
-mode-within r m v h =
+mode-within m v h =
     let full : 255 < 256 = lit< tt in
-    every-at (by_mode r v) (
+    every-at (by_mode v) (
       luminance-within v h 255 255 full full,
       (
         luminance-offset-within v h,
@@ -223,12 +222,12 @@ mode-within r m v h =
                         (
                           scaled-within v h v.v4 v.v5 h.v4 h.v5,
                           (
-                            eleven-within v h r opaque opaque-within,
+                            eleven-within v h opaque opaque-within,
                             (
                               direct-within v h v.v6 v.v7 h.v6 h.v7,
                               (
                                 offset-within v h _ _,
-                                (eleven-within v h r (plain_alphas v) (plain-alphas-within v h), (eleven-within v h r (hdr_alphas v) (hdr-alphas-within v h), tt)),
+                                (eleven-within v h (plain_alphas v) (plain-alphas-within v h), (eleven-within v h (hdr_alphas v) (hdr-alphas-within v h), tt)),
                               ),
                             ),
                           ),
@@ -246,12 +245,12 @@ mode-within r m v h =
     m
 
 -- ---- every partition
-pub partition-within : (r : Reading) (parts : ℕ) (modes ev : List ℕ) → ((j : ℕ) → get_or ev j 0 < 256) → (i : ℕ) → InLimits (get_or (endpoints_list r parts modes ev) i nothing)
+pub partition-within : (parts : ℕ) (modes ev : List ℕ) → ((j : ℕ) → get_or ev j 0 < 256) → (i : ℕ) → InLimits (get_or (endpoints_list parts modes ev) i nothing)
 unfolding endpoints_list partition_endpoints values_at
-partition-within r parts modes ev h i = every-at (endpoints_list r parts modes ev) (one 0, (one 1, (one 2, (one 3, tt)))) i
+partition-within parts modes ev h i = every-at (endpoints_list parts modes ev) (one 0, (one 1, (one 2, (one 3, tt)))) i
   where
     bytes : (k : ℕ) → Bytes (values_at ev k)
     bytes k = record { v0 = h k; v1 = h (k + 1); v2 = h (k + 2); v3 = h (k + 3); v4 = h (k + 4); v5 = h (k + 5); v6 = h (k + 6); v7 = h (k + 7) }
 
-    one : (i : ℕ) → InLimits (partition_endpoints r parts modes ev i)
-    one i = within-cond (ltb i parts) (mode-within r (get_or modes i 0) (values_at ev (count_to modes i)) (bytes (count_to modes i))) (every-at [] tt 0)
+    one : (i : ℕ) → InLimits (partition_endpoints parts modes ev i)
+    one i = within-cond (ltb i parts) (mode-within (get_or modes i 0) (values_at ev (count_to modes i)) (bytes (count_to modes i))) (every-at [] tt 0)

@@ -3,7 +3,6 @@
 use Rattle.std.specs.Prelude.{◌≡◌, List, ℕ, zero, suc, ◌+◌, ◌≤◌, ◌<◌, get_or, set}
 use Rattle.std.proofs.Common.{le_refl, add-one, arith}
 use Rattle.std.proofs.Math.Decide.{dec_lt}
-use Rattle.options.specs.declared.Reading.{Reading}
 use Rattle.endpoints_rules.specs.Modes.{endpoints_of}
 use Rattle.endpoints.specs.Endpoints.{values_at, count_of, count_to, partition_endpoints, endpoints_list}
 use Rattle.endpoints_colours.specs.declared.Endpoints.{Endpoints}
@@ -29,10 +28,10 @@ past-3 : {i : ℕ} → suc (suc (suc (suc i))) < 4 → ⊥
 past-3 h = omega arith
 
 -- one partition more
-pub one_more : (r : Reading) (modes ev : List ℕ) (x : Endpoints) (i : ℕ) → i < 4 → x ≡ endpoints_of r (get_or modes i 0) (values_at ev (count_to modes i)) → set (endpoints_list r i modes ev) i x ≡ endpoints_list r (i + 1) modes ev
+pub one_more : (modes ev : List ℕ) (x : Endpoints) (i : ℕ) → i < 4 → x ≡ endpoints_of (get_or modes i 0) (values_at ev (count_to modes i)) → set (endpoints_list i modes ev) i x ≡ endpoints_list (i + 1) modes ev
 unfolding endpoints_list partition_endpoints
-one_more r modes ev x zero h e = rw e
-one_more r modes ev x (suc zero) h e = rw e
-one_more r modes ev x (suc (suc zero)) h e = rw e
-one_more r modes ev x (suc (suc (suc zero))) h e = rw e
-one_more r modes ev x (suc (suc (suc (suc i)))) h e = absurd (past-3 h)
+one_more modes ev x zero h e = rw e
+one_more modes ev x (suc zero) h e = rw e
+one_more modes ev x (suc (suc zero)) h e = rw e
+one_more modes ev x (suc (suc (suc zero))) h e = rw e
+one_more modes ev x (suc (suc (suc (suc i)))) h e = absurd (past-3 h)

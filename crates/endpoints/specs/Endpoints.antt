@@ -1,7 +1,6 @@
 -- The endpoints of a block's partitions, whose values stand one after the other.
 -- Assumes nothing.
 use Rattle.std.specs.Prelude.{cond, List, [], ◌∷◌, ℕ, zero, suc, ◌+◌, ◌*◌, ◌/◌, ltb, get_or}
-use Rattle.options.specs.declared.Reading.{Reading}
 use Rattle.endpoints_colours.specs.Colours.{nothing}
 use Rattle.endpoints_rules.specs.Modes.{endpoints_of}
 use Rattle.endpoints_colours.specs.declared.Endpoints.{Endpoints}
@@ -30,9 +29,9 @@ count_to modes zero = 0
 count_to modes (suc n) = count_to modes n + count_of (get_or modes n 0)
 
 -- of partition i of those that a block has
-unfoldable pub partition_endpoints : Reading → ℕ → List ℕ → List ℕ → ℕ → Endpoints
-partition_endpoints r parts modes ev i = cond (ltb i parts) (endpoints_of r (get_or modes i 0) (values_at ev (count_to modes i))) nothing
+unfoldable pub partition_endpoints : ℕ → List ℕ → List ℕ → ℕ → Endpoints
+partition_endpoints parts modes ev i = cond (ltb i parts) (endpoints_of (get_or modes i 0) (values_at ev (count_to modes i))) nothing
 
-unfoldable pub endpoints_list : Reading → ℕ → List ℕ → List ℕ → List Endpoints
-endpoints_list r parts modes ev =
-    partition_endpoints r parts modes ev 0 ∷ partition_endpoints r parts modes ev 1 ∷ partition_endpoints r parts modes ev 2 ∷ partition_endpoints r parts modes ev 3 ∷ []
+unfoldable pub endpoints_list : ℕ → List ℕ → List ℕ → List Endpoints
+endpoints_list parts modes ev =
+    partition_endpoints parts modes ev 0 ∷ partition_endpoints parts modes ev 1 ∷ partition_endpoints parts modes ev 2 ∷ partition_endpoints parts modes ev 3 ∷ []

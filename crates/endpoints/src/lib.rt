@@ -6,7 +6,6 @@ ghost use Rattle.endpoints_rules.specs.Modes.{endpoints_of};
 ghost use Rattle.endpoints.specs.Endpoints.{values_at, count_of, count_to, endpoints_list};
 
 use endpoints_colours::{Endpoints, Mark, Values};
-use options::Reading;
 
 fn no_endpoints() -> Endpoints
     ensures { result ≡ nothing }
@@ -64,28 +63,23 @@ fn makes_hdr(mode: u8) -> bool
 }
 
 // The endpoints of a mode from its values.
-fn decode_mode(reading: Reading, mode: u8, v: Values) -> Endpoints
+fn decode_mode(mode: u8, v: Values) -> Endpoints
     requires { mode < 16 }
-    ensures { result ≡ endpoints_of reading mode v }
+    ensures { result ≡ endpoints_of mode v }
 {
     if makes_hdr(mode) {
-        endpoints_hdr_modes::decode_hdr(reading, mode, v)
+        endpoints_hdr_modes::decode_hdr(mode, v)
     } else {
         endpoints_ldr::decode_ldr(mode, v)
     }
 }
 
 // The endpoints of the first partitions, whose values stand one after the other.
-pub fn decode_endpoints(
-    reading: Reading,
-    parts: usize,
-    modes: [u8; 4],
-    ev: &[u8; 32],
-) -> [Endpoints; 4]
+pub fn decode_endpoints(parts: usize, modes: [u8; 4], ev: &[u8; 32]) -> [Endpoints; 4]
     requires le_parts { (1 ≤ parts) × (parts ≤ 4) }
     requires by_index { (i : ℕ) → i < parts → get_or modes i 0 < 16 }
     requires parts_bound { count_to modes parts ≤ 18 }
-    ensures { result ≡ endpoints_list reading parts modes ev.now }
+    ensures { result ≡ endpoints_list parts modes ev.now }
 {
     let none = no_endpoints();
     let mut out = [none; 4];
@@ -93,7 +87,7 @@ pub fn decode_endpoints(
     let mut i = 0;
     while i < parts {
         let m = modes[i];
-        out[i] = decode_mode(reading, m, values_at(ev, k));
+        out[i] = decode_mode(m, values_at(ev, k));
         k += values_of(m);
         i += 1;
     }

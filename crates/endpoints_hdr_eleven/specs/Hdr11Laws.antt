@@ -1,17 +1,15 @@
 -- Laws of the modes 11, 14 and 15: each component in closed form, for the sub-modes 0 to 7, held to the table.
 -- Assumes nothing.
-use Rattle.std.specs.Prelude.{◌≡◌, refl, cond, ◌⊎◌, List, [], ◌∷◌, ℕ, zero, suc, ◌+◌, ◌*◌, ◌-◌, ◌/◌, ◌%◌, ◌^◌, ◌≤◌, ◌<◌, ltb, get_or}
-use Rattle.std.proofs.Common.{ap, ◌∙◌, inl, inr, zero-mul, mul-le-mul_right, mod-lt, mod-eq_of_lt, lit≤, pow_pos, pow_mono, lt-ltb, le-ltb}
-use Rattle.std.proofs.Math.Nat.{mod-eq-sub-mod}
+use Rattle.std.specs.Prelude.{◌≡◌, refl, cond, ◌⊎◌, List, [], ◌∷◌, ℕ, zero, suc, ◌+◌, ◌*◌, ◌-◌, ◌/◌, ◌%◌, ◌^◌, ◌≤◌, ◌<◌, ltb}
+use Rattle.std.proofs.Common.{ap, inl, inr, add-zero, zero-mul, mul-le-mul_right, lit≤, pow_pos, pow_mono, lt-ltb, le-ltb}
 use native.Mathlib.Omega.{arith}
 use Rattle.std.proofs.Math.Decide.{dec_lt}
+use Rattle.std.proofs.Math.ListN.{get_or}
 use Rattle.std.proofs.Math.Pow.{mod-pow-add}
-use Rattle.options.specs.declared.Reading.{Reading}
-use Rattle.options.specs.declared.Reading.TheVariants.{Crate, Standard}
 use Rattle.endpoints_rules.specs.Hdr.{given, less, rgb, alphas}
 use Rattle.endpoints_colours.specs.declared.Mark.TheVariants.{Hdr}
 use Rattle.endpoints_rules.specs.BitLaws.{bits-6, bits-7}
-use Rattle.endpoints_rules.specs.Hdr11.{offset_read, eleven_rows, offset_bits, eleven_part, eleven_a, eleven_b0, eleven_b1, eleven_c, eleven_d0, eleven_d1, up, under, eleven_first, eleven_second, offset_alphas}
+use Rattle.endpoints_rules.specs.Hdr11.{crate_offset, eleven_rows, offset_bits, eleven_part, eleven_a, eleven_b0, eleven_b1, eleven_c, eleven_d0, eleven_d1, up, under, eleven_first, eleven_second, offset_alphas}
 use Rattle.endpoints_colours.specs.declared.Values.{Values}
 use Rattle.endpoints_hdr_eleven.specs.declared.Eleven.{Eleven}
 
@@ -47,39 +45,29 @@ commons v =
     let x5 = v.v5 / 64 % 2 * 64 in
     c ∷ c ∷ (c + v.v3 / 64 % 2 * 64) ∷ (c + x5) ∷ c ∷ (c + x5 + v.v4 / 64 % 2 * 128) ∷ (c + x5) ∷ (c + x5) ∷ []
 
--- what is taken away for an offset d that is negative from `half` on, and what is added for it
-abbrev pub kept : Reading → ℕ → ℕ → ℕ
-kept Crate d half = cond (ltb d half) d 4096
-kept Standard d half = cond (ltb d half) (d + half) (d - half)
+abbrev pub kept : ℕ → ℕ → ℕ
+kept d half = cond (ltb d half) d 4096
 
-abbrev pub added : Reading → ℕ → ℕ
-added Crate half = 0
-added Standard half = half
-
-unfoldable pub offsets : Reading → ℕ → List ℕ
-offsets r x =
-    kept r (x % 128) 64
-    ∷ kept r (x % 64) 32
-    ∷ kept r (x % 128) 64
-    ∷ kept r (x % 64) 32
-    ∷ kept r (x % 32) 16
-    ∷ kept r (x % 64) 32
-    ∷ kept r (x % 32) 16
-    ∷ kept r (x % 64) 32
+unfoldable pub offsets : ℕ → List ℕ
+offsets x =
+    kept (x % 128) 64
+    ∷ kept (x % 64) 32
+    ∷ kept (x % 128) 64
+    ∷ kept (x % 64) 32
+    ∷ kept (x % 32) 16
+    ∷ kept (x % 64) 32
+    ∷ kept (x % 32) 16
+    ∷ kept (x % 64) 32
     ∷ []
 
-unfoldable pub halves : List ℕ
-halves = 64 ∷ 32 ∷ 64 ∷ 32 ∷ 16 ∷ 32 ∷ 16 ∷ 32 ∷ []
-
-unfoldable pub eleven_of : Reading → ℕ → Values → Eleven
-eleven_of r m v = record {
+unfoldable pub eleven_of : ℕ → Values → Eleven
+eleven_of m v = record {
   a = up m (get_or (bases v) m 0);
   b0 = up m (get_or (differences v.v2 v.v4) m 0);
   b1 = up m (get_or (differences v.v3 v.v5) m 0);
   c = up m (get_or (commons v) m 0);
-  d0 = up m (get_or (offsets r v.v4) m 0);
-  d1 = up m (get_or (offsets r v.v5) m 0);
-  more = up m (added r (get_or halves m 0));
+  d0 = up m (get_or (offsets v.v4) m 0);
+  d1 = up m (get_or (offsets v.v5) m 0);
 }
 
 pub record ElevenBounds (e : Eleven) : Type 0 where
@@ -87,9 +75,8 @@ pub record ElevenBounds (e : Eleven) : Type 0 where
   pub b0 : e.b0 < 2048
   pub b1 : e.b1 < 2048
   pub c : e.c < 2048
-  pub d0 : e.d0 < 33785
-  pub d1 : e.d1 < 33785
-  pub more : e.more < 513
+  pub d0 : e.d0 < 33281
+  pub d1 : e.d1 < 33281
 
 -- ---- the sub-modes one by one
 pub below-8 : (P : ℕ → Type 0) → P 0 → P 1 → P 2 → P 3 → P 4 → P 5 → P 6 → P 7 → (m : ℕ) → m < 8 → P m
@@ -153,22 +140,14 @@ bits-few : (m : ℕ) → m < 8 → get_or offset_bits m 0 ≤ 7
 unfolding offset_bits
 bits-few = below-8 _ (lit≤ tt) (lit≤ tt) (lit≤ tt) (lit≤ tt) (lit≤ tt) (lit≤ tt) (lit≤ tt) (lit≤ tt)
 
-kept-is : (r : Reading) (x m : ℕ) → m < 8 → kept r (x % 2 ^ get_or offset_bits m 0) (2 ^ (get_or offset_bits m 0 - 1)) ≡ get_or (offsets r x) m 0
+kept-is : (x m : ℕ) → m < 8 → kept (x % 2 ^ get_or offset_bits m 0) (2 ^ (get_or offset_bits m 0 - 1)) ≡ get_or (offsets x) m 0
 unfolding offset_bits offsets
-kept-is r x = below-8 _ refl refl refl refl refl refl refl refl
+kept-is x = below-8 _ refl refl refl refl refl refl refl refl
 
-half_is : (m : ℕ) → m < 8 → 2 ^ (get_or offset_bits m 0 - 1) ≡ get_or halves m 0
-unfolding offset_bits halves
-half_is = below-8 _ refl refl refl refl refl refl refl refl
-
-range-is : (m : ℕ) → m < 8 → 2 ^ get_or offset_bits m 0 ≡ 2 * 2 ^ (get_or offset_bits m 0 - 1)
-unfolding offset_bits
-range-is = below-8 _ refl refl refl refl refl refl refl refl
-
--- ---- an offset in the crate's reading: from 4096 on it makes the endpoint 0, so it may be cut to 4096
-cut : (A B k n d : ℕ) → A < 4096 → 0 < k → n ≤ 7 → Dec (d < 2 ^ (n - 1)) → less (A + 0 * k) (B + (offset_read Crate n d).plus * k) ≡ less (A + 0 * k) (B + kept Crate d (2 ^ (n - 1)) * k)
-unfolding offset_read
-cut A B k n d h l b (yes p) = rw (lt-ltb _ _ p)
+-- ---- an offset from 4096 on makes the endpoint 0, so it may be cut to 4096
+cut : (A B k n d : ℕ) → A < 4096 → 0 < k → n ≤ 7 → Dec (d < 2 ^ (n - 1)) → less (A + (crate_offset n d).minus * k) (B + (crate_offset n d).plus * k) ≡ less A (B + kept d (2 ^ (n - 1)) * k)
+unfolding crate_offset
+cut A B k n d h l b (yes p) = rw (lt-ltb _ _ p) (ap (λ (x : ℕ). less x (B + d * k)) (rw (zero-mul k) (add-zero A)))
 cut A B k n d h l b (no p) =
     let w : 2 ^ n ≤ 128 = pow_mono b in
     let z : 0 * k ≡ 0 = zero-mul k in
@@ -177,34 +156,19 @@ cut A B k n d h l b (no p) =
     let q : 2 ^ (n - 1) ≤ d = omega arith in
     rw (le-ltb d (2 ^ (n - 1)) q) (omega arith)
 
--- and in the standard's: a sign is extended by half the range
-extended : (d half : ℕ) → d < 2 * half → Dec (d < half) → (d + half) % (2 * half) ≡ cond (ltb d half) (d + half) (d - half)
-extended d half h (yes p) = rw (lt-ltb d half p) (mod-eq_of_lt (omega arith))
-extended d half h (no p) =
-    let q : half ≤ d = omega arith in
-    let e : d + half - 2 * half ≡ d - half = omega arith in
-    let l : d - half < 2 * half = omega arith in
-    rw (le-ltb d half q) (mod-eq-sub-mod (omega arith) ∙ ap (λ (x : ℕ). x % (2 * half)) e ∙ mod-eq_of_lt l)
-
--- an offset d of n bits under the base
-module _ (m a b c n d : ℕ) (h : n ≤ 7) (s : 2 ^ n ≡ 2 * 2 ^ (n - 1)) (f : d < 2 ^ n) (l : up m a < 4096) where
-  under-is : (r : Reading) → under m a b c (offset_read r n d) ≡ less (up m a + up m (added r (2 ^ (n - 1)))) (up m b + up m c + up m (kept r d (2 ^ (n - 1))))
-  unfolding under offset_read
-  under-is Crate = cut (up m a) (up m b + up m c) (2 ^ (3 - m / 2)) n d l (pow_pos (3 - m / 2)) h (dec_lt d (2 ^ (n - 1)))
-  under-is Standard = rw (s, extended d (2 ^ (n - 1)) (rw s at f) (dec_lt d (2 ^ (n - 1))))
+pub under-is : (m a b c n d : ℕ) → n ≤ 7 → up m a < 4096 → under m a b c (crate_offset n d) ≡ less (up m a) (up m b + up m c + up m (kept d (2 ^ (n - 1))))
+unfolding under
+under-is m a b c n d h l = cut (up m a) (up m b + up m c) (2 ^ (3 - m / 2)) n d l (pow_pos (3 - m / 2)) h (dec_lt d (2 ^ (n - 1)))
 
 -- ---- the two colours by the closed forms
-module _ (r : Reading) (m : ℕ) (v : Values) (h : m < 8) (s : up m (get_or (bases v) m 0) < 4096) where
-  green : (x b : ℕ) → under m (get_or (bases v) m 0) b (get_or (commons v) m 0) (offset_read r (get_or offset_bits m 0) (x % 2 ^ get_or offset_bits m 0)) ≡ less (up m (get_or (bases v) m 0) + up m (added r (get_or halves m 0))) (up m b + up m (get_or (commons v) m 0) + up m (get_or (offsets r x) m 0))
-  green x b =
-      let n = get_or offset_bits m 0 in
-      rw (under-is m (get_or (bases v) m 0) b (get_or (commons v) m 0) n (x % 2 ^ n) (bits-few m h) (range-is m h) (mod-lt x (pow_pos n)) s r, half_is m h) (rw (← (half_is m h), kept-is r x m h))
-
-  pub first-is : eleven_first r m v ≡ rgb (less (eleven_of r m v).a (eleven_of r m v).c) (less ((eleven_of r m v).a + (eleven_of r m v).more) ((eleven_of r m v).b0 + (eleven_of r m v).c + (eleven_of r m v).d0)) (less ((eleven_of r m v).a + (eleven_of r m v).more) ((eleven_of r m v).b1 + (eleven_of r m v).c + (eleven_of r m v).d1))
+module _ (m : ℕ) (v : Values) (h : m < 8) (s : up m (get_or (bases v) m 0) < 4096) where
+  pub first-is : eleven_first m v ≡ rgb (less (eleven_of m v).a (eleven_of m v).c) (less (eleven_of m v).a ((eleven_of m v).b0 + (eleven_of m v).c + (eleven_of m v).d0)) (less (eleven_of m v).a ((eleven_of m v).b1 + (eleven_of m v).c + (eleven_of m v).d1))
   unfolding eleven_first eleven_of
-  first-is = rw (base-is v m h, b0-is v m h, b1-is v m h, c-is v m h, d0-is v m h, d1-is v m h, green v.v4 (get_or (differences v.v2 v.v4) m 0), green v.v5 (get_or (differences v.v3 v.v5) m 0))
+  first-is =
+      let n : get_or offset_bits m 0 ≤ 7 = bits-few m h in
+      rw (base-is v m h, b0-is v m h, b1-is v m h, c-is v m h, d0-is v m h, d1-is v m h, under-is m (get_or (bases v) m 0) (get_or (differences v.v2 v.v4) m 0) (get_or (commons v) m 0) (get_or offset_bits m 0) (v.v4 % 2 ^ get_or offset_bits m 0) n s, under-is m (get_or (bases v) m 0) (get_or (differences v.v3 v.v5) m 0) (get_or (commons v) m 0) (get_or offset_bits m 0) (v.v5 % 2 ^ get_or offset_bits m 0) n s, kept-is v.v4 m h, kept-is v.v5 m h)
 
-  pub second_is : eleven_second m v ≡ rgb (eleven_of r m v).a (less (eleven_of r m v).a (eleven_of r m v).b0) (less (eleven_of r m v).a (eleven_of r m v).b1)
+  pub second_is : eleven_second m v ≡ rgb (eleven_of m v).a (less (eleven_of m v).a (eleven_of m v).b0) (less (eleven_of m v).a (eleven_of m v).b1)
   unfolding eleven_second eleven_of
   second_is =
       let e : less (up m (get_or (bases v) m 0)) 0 ≡ up m (get_or (bases v) m 0) = omega arith in
@@ -229,15 +193,9 @@ difference-rest x y =
     below-8 _ (λ a b. absurd (a (inl refl))) (λ a b. absurd (b (inl refl))) (λ a b. refl) (λ a b. absurd (a (inr (inl refl)))) (λ a b. absurd (b (inr refl))) (λ a b. refl)
     (λ a b. absurd (a (inr (inr refl)))) (λ a b. refl)
 
-pub offset-rest : (r : Reading) (x m : ℕ) → m < 8 → ((m ≡ 0) ⊎ (m ≡ 2) → ⊥) → ((m ≡ 4) ⊎ (m ≡ 6) → ⊥) → kept r (x % 64) 32 ≡ get_or (offsets r x) m 0
+pub offset-rest : (x m : ℕ) → m < 8 → ((m ≡ 0) ⊎ (m ≡ 2) → ⊥) → ((m ≡ 4) ⊎ (m ≡ 6) → ⊥) → kept (x % 64) 32 ≡ get_or (offsets x) m 0
 unfolding offsets
-offset-rest r x =
-    below-8 _ (λ a b. absurd (a (inl refl))) (λ a b. refl) (λ a b. absurd (a (inr refl))) (λ a b. refl) (λ a b. absurd (b (inl refl))) (λ a b. refl)
-    (λ a b. absurd (b (inr refl))) (λ a b. refl)
-
-pub half-rest : (m : ℕ) → m < 8 → ((m ≡ 0) ⊎ (m ≡ 2) → ⊥) → ((m ≡ 4) ⊎ (m ≡ 6) → ⊥) → 32 ≡ get_or halves m 0
-unfolding halves
-half-rest =
+offset-rest x =
     below-8 _ (λ a b. absurd (a (inl refl))) (λ a b. refl) (λ a b. absurd (a (inr refl))) (λ a b. refl) (λ a b. absurd (b (inl refl))) (λ a b. refl)
     (λ a b. absurd (b (inr refl))) (λ a b. refl)
 

@@ -1,13 +1,12 @@
 // The numbers of which endpoint mode 11 makes its colours, put together from the values' bits.
 ghost use Rattle.std.specs.Prelude.{◌≡◌, ◌-◌, ◌*◌, ◌/◌, ◌+◌, ◌^◌, ◌≤◌, ◌<◌, get_or};
 ghost use Rattle.endpoints_rules.specs.Hdr11.{up};
-ghost use Rattle.endpoints_hdr_eleven.specs.Hdr11Laws.{bases, differences, commons, kept, added, offsets, halves, eleven_of, ElevenBounds};
+ghost use Rattle.endpoints_hdr_eleven.specs.Hdr11Laws.{bases, differences, commons, kept, offsets, eleven_of, ElevenBounds};
 
 use endpoints_colours::Values;
-use options::Reading;
 
-// The numbers of mode 11: the base, two differences, what both endpoints differ by, two offsets,
-// and what is added to the base where an offset is taken away.
+// The numbers of mode 11: the base, two differences, what both endpoints differ by, and two
+// offsets.
 #[derive(Drop)]
 pub struct Eleven {
     pub a: u16,
@@ -16,7 +15,6 @@ pub struct Eleven {
     pub c: u16,
     pub d0: u16,
     pub d1: u16,
-    pub more: u16,
 }
 
 fn base_eleven(mode: u8, v: Values) -> u16
@@ -69,50 +67,23 @@ fn common(mode: u8, v: Values) -> u16
     }
 }
 
-// An offset as it is taken away. One whose top bit is set is a large number in the original: any
-// from 4096 on makes the endpoint 0. The standard's is held with half its range added.
-fn keep(reading: Reading, d: u16, half: u16) -> u16
-    requires { half ≤ 64 }
-    ensures { (result ≡ kept reading d half) × (result ≤ d + 4096) }
+// An offset whose top bit is set is a large number in the original: any from 4096 on makes the
+// endpoint 0.
+fn keep(d: u16, half: u16) -> u16
+    ensures { (result ≡ kept d half) × (result ≤ 4096 + half) }
 {
-    match reading {
-        Reading::Crate => { if d < half { d } else { 4096 } }
-        Reading::Standard => { if d < half { d + half } else { d - half } }
-    }
+    if d < half { d } else { 4096 }
 }
 
-fn offset(reading: Reading, mode: u8, x: u8) -> u16
+fn offset(mode: u8, x: u8) -> u16
     requires { mode < 8 }
-    ensures { (result ≡ get_or (offsets reading x) mode 0) × (result ≤ 4223) }
+    ensures { (result ≡ get_or (offsets x) mode 0) × (result ≤ 4160) }
 {
     let w = x as u16;
     match mode {
-        0 | 2 => keep(reading, w % 128, 64),
-        4 | 6 => keep(reading, w % 32, 16),
-        _ => keep(reading, w % 64, 32),
-    }
-}
-
-// Half the range of an offset.
-fn half_of(mode: u8) -> u16
-    requires { mode < 8 }
-    ensures { (result ≡ get_or halves mode 0) × (result ≤ 64) }
-{
-    match mode {
-        0 | 2 => 64,
-        4 | 6 => 16,
-        _ => 32,
-    }
-}
-
-// What is added to the base where an offset is taken away.
-fn more_of(reading: Reading, mode: u8) -> u16
-    requires { mode < 8 }
-    ensures { (result ≡ added reading (get_or halves mode 0)) × (result ≤ 64) }
-{
-    match reading {
-        Reading::Crate => 0,
-        Reading::Standard => half_of(mode),
+        0 | 2 => keep(w % 128, 64),
+        4 | 6 => keep(w % 32, 16),
+        _ => keep(w % 64, 32),
     }
 }
 
@@ -129,25 +100,17 @@ fn scale(mode: u8) -> u16
     }
 }
 
-pub fn parts_of_eleven(reading: Reading, mode: u8, v: Values) -> Eleven
+pub fn parts_of_eleven(mode: u8, v: Values) -> Eleven
     requires { mode < 8 }
-    ensures { (result ≡ eleven_of reading mode v) × (ElevenBounds result) }
+    ensures { (result ≡ eleven_of mode v) × (ElevenBounds result) }
 {
     let by = scale(mode);
-    let a = base_eleven(mode, v) * by;
-    let b0 = difference(mode, v.v2, v.v4) * by;
-    let b1 = difference(mode, v.v3, v.v5) * by;
-    let c = common(mode, v) * by;
-    let d0 = offset(reading, mode, v.v4) * by;
-    let d1 = offset(reading, mode, v.v5) * by;
-    let more = more_of(reading, mode) * by;
     Eleven {
-        a,
-        b0,
-        b1,
-        c,
-        d0,
-        d1,
-        more,
+        a: base_eleven(mode, v) * by,
+        b0: difference(mode, v.v2, v.v4) * by,
+        b1: difference(mode, v.v3, v.v5) * by,
+        c: common(mode, v) * by,
+        d0: offset(mode, v.v4) * by,
+        d1: offset(mode, v.v5) * by,
     }
 }

@@ -89,16 +89,6 @@ pub(crate) fn lessened(a: u16, b: u16) -> u16
     if a < b { 0 } else { a - b }
 }
 
-// a - b, brought into 0..4095.
-pub(crate) fn brought(a: u16, b: u16) -> u16
-    ensures { result ≡ less a b }
-{
-    if a < b {
-        return 0;
-    }
-    at_most_4095(a - b)
-}
-
 pub(crate) fn swap(major: u8, c: Rgb) -> Rgb
     ensures { result ≡ swapped major c }
 {

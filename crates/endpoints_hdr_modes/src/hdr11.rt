@@ -8,18 +8,17 @@ use crate::hdr;
 use endpoints_colours::{Alphas, Endpoints, Mark, Values};
 use endpoints_hdr_eleven::Eleven;
 use endpoints_rules::Rgb;
-use options::Reading;
 
 fn first_eleven(e: Eleven) -> Rgb
     requires { ElevenBounds e }
     ensures { result ≡
-        rgb (less e.a e.c) (less (e.a + e.more) (e.b0 + e.c + e.d0))
-        (less (e.a + e.more) (e.b1 + e.c + e.d1)) }
+        rgb (less e.a e.c) (less e.a (e.b0 + e.c + e.d0))
+        (less e.a (e.b1 + e.c + e.d1)) }
 {
     hdr::rgb_of(
         hdr::lessened(e.a, e.c),
-        hdr::brought(e.a + e.more, e.b0 + e.c + e.d0),
-        hdr::brought(e.a + e.more, e.b1 + e.c + e.d1),
+        hdr::lessened(e.a, e.b0 + e.c + e.d0),
+        hdr::lessened(e.a, e.b1 + e.c + e.d1),
     )
 }
 
@@ -30,8 +29,8 @@ fn second_eleven(e: Eleven) -> Rgb
     hdr::rgb_of(e.a, hdr::lessened(e.a, e.b0), hdr::lessened(e.a, e.b1))
 }
 
-pub(crate) fn decode_endpoints_hdr11(reading: Reading, v: Values, t: Alphas) -> Endpoints
-    ensures { result ≡ hdr11 reading v t }
+pub(crate) fn decode_endpoints_hdr11(v: Values, t: Alphas) -> Endpoints
+    ensures { result ≡ hdr11 v t }
 {
     let major = v.v4 / 128 + v.v5 / 128 * 2;
     if major == 3 {
@@ -41,8 +40,7 @@ pub(crate) fn decode_endpoints_hdr11(reading: Reading, v: Values, t: Alphas) -> 
             t,
         );
     }
-    let mode = v.v1 / 128 + v.v2 / 128 * 2 + v.v3 / 128 * 4;
-    let e = endpoints_hdr_eleven::parts_of_eleven(reading, mode, v);
+    let e = endpoints_hdr_eleven::parts_of_eleven(v.v1 / 128 + v.v2 / 128 * 2 + v.v3 / 128 * 4, v);
     hdr::set_endpoint_hdr(
         hdr::swap(major, first_eleven(e)),
         hdr::swap(major, second_eleven(e)),
@@ -54,7 +52,11 @@ fn alphas_by(first: u16, add: u16, sub: u16) -> Alphas
     requires { (first < 4096) × (add < 4096) }
     ensures { result ≡ alphas first (less (first + add) sub) Mark.Hdr }
 {
-    hdr::hdr_alphas_of(first, hdr::brought(first + add, sub))
+    let sum = first + add;
+    if sum < sub {
+        return hdr::hdr_alphas_of(first, 0);
+    }
+    hdr::hdr_alphas_of(first, hdr::at_most_4095(sum - sub))
 }
 
 fn offset_alphas(mode: u8, x: u16, y: u16) -> Alphas

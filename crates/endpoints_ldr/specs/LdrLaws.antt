@@ -3,7 +3,6 @@
 use Rattle.std.specs.Prelude.{◌≡◌, cond, ◌⊎◌, ℕ, ◌+◌, ◌*◌, ◌/◌, ◌%◌, ◌≤◌, ◌<◌, min, eqb}
 use Rattle.std.proofs.Common.{◌∙◌, inl, inr, ⊎_elim, mul-le-mul, arith}
 use borrow.Author.Tests.{le-leb, lt-leb}
-use Rattle.options.specs.declared.Reading.{Reading}
 use Rattle.endpoints_colours.specs.Colours.{rgba, ldr}
 use Rattle.endpoints_colours.specs.Marks.{marks_of}
 use Rattle.endpoints_colours.specs.MarkLaws.{ldr-modes}
@@ -88,31 +87,31 @@ last-modes m h e n0 n1 n4 n5 n6 n8 =
     ⊎_elim (λ x. absurd (n0 x)) (⊎_elim (λ x. absurd (n1 x)) (⊎_elim (λ x. absurd (n4 x)) (⊎_elim (λ x. absurd (n5 x)) (⊎_elim (λ x. absurd (n6 (inl x))) (⊎_elim (λ x. absurd (n8 (inl x)))
     (⊎_elim inl (⊎_elim (λ x. absurd (n6 (inr x))) (⊎_elim (λ x. absurd (n8 (inr x))) inr)))))))) (ldr-modes m h e)
 
-module _ (m : ℕ) (v : Values) (e : Endpoints) (r : Reading) where
-  pub mode-0 : m ≡ 0 → e ≡ luminance v.v0 v.v1 255 255 → e ≡ endpoints_of r m v
+module _ (m : ℕ) (v : Values) (e : Endpoints) where
+  pub mode-0 : m ≡ 0 → e ≡ luminance v.v0 v.v1 255 255 → e ≡ endpoints_of m v
   unfolding endpoints_of by_mode
   mode-0 k h = h ∙ rw k
 
-  pub mode-1 : m ≡ 1 → e ≡ luminance_offset v.v0 v.v1 → e ≡ endpoints_of r m v
+  pub mode-1 : m ≡ 1 → e ≡ luminance_offset v.v0 v.v1 → e ≡ endpoints_of m v
   unfolding endpoints_of by_mode
   mode-1 k h = h ∙ rw k
 
-  pub mode-4 : m ≡ 4 → e ≡ luminance v.v0 v.v1 v.v2 v.v3 → e ≡ endpoints_of r m v
+  pub mode-4 : m ≡ 4 → e ≡ luminance v.v0 v.v1 v.v2 v.v3 → e ≡ endpoints_of m v
   unfolding endpoints_of by_mode
   mode-4 k h = h ∙ rw k
 
-  pub mode-5 : m ≡ 5 → e ≡ luminance_alpha_offset v.v0 v.v1 v.v2 v.v3 → e ≡ endpoints_of r m v
+  pub mode-5 : m ≡ 5 → e ≡ luminance_alpha_offset v.v0 v.v1 v.v2 v.v3 → e ≡ endpoints_of m v
   unfolding endpoints_of by_mode
   mode-5 k h = h ∙ rw k
 
-  pub mode-scaled : (x y : ℕ) → (m ≡ 6) ⊎ (m ≡ 10) → x ≡ cond (eqb m 6) 255 v.v4 → y ≡ cond (eqb m 6) 255 v.v5 → e ≡ scaled v x y → e ≡ endpoints_of r m v
+  pub mode-scaled : (x y : ℕ) → (m ≡ 6) ⊎ (m ≡ 10) → x ≡ cond (eqb m 6) 255 v.v4 → y ≡ cond (eqb m 6) 255 v.v5 → e ≡ scaled v x y → e ≡ endpoints_of m v
   unfolding endpoints_of by_mode
   mode-scaled x y k p q h = h ∙ rw (p, q) (⊎_elim (λ z. rw z) (λ z. rw z) k)
 
-  pub mode-direct : (x y : ℕ) → (m ≡ 8) ⊎ (m ≡ 12) → x ≡ cond (eqb m 8) 255 v.v6 → y ≡ cond (eqb m 8) 255 v.v7 → e ≡ direct v x y → e ≡ endpoints_of r m v
+  pub mode-direct : (x y : ℕ) → (m ≡ 8) ⊎ (m ≡ 12) → x ≡ cond (eqb m 8) 255 v.v6 → y ≡ cond (eqb m 8) 255 v.v7 → e ≡ direct v x y → e ≡ endpoints_of m v
   unfolding endpoints_of by_mode
   mode-direct x y k p q h = h ∙ rw (p, q) (⊎_elim (λ z. rw z) (λ z. rw z) k)
 
-  pub mode-offset : (t : Alphas) → (m ≡ 9) ⊎ (m ≡ 13) → t ≡ cond (eqb m 9) opaque_alphas (transferred_alphas v.v6 v.v7) → e ≡ offset v t.first t.second → e ≡ endpoints_of r m v
+  pub mode-offset : (t : Alphas) → (m ≡ 9) ⊎ (m ≡ 13) → t ≡ cond (eqb m 9) opaque_alphas (transferred_alphas v.v6 v.v7) → e ≡ offset v t.first t.second → e ≡ endpoints_of m v
   unfolding endpoints_of by_mode
   mode-offset t k p h = h ∙ rw p (⊎_elim (λ z. rw z) (λ z. rw z) k)

@@ -1,6 +1,5 @@
 // The endpoint modes of low dynamic range.
 ghost use Rattle.std.specs.Prelude.{◌≡◌, cond, ◌*◌, ◌/◌, ◌<◌, min, eqb};
-ghost use Rattle.options.specs.declared.Reading.{Reading};
 ghost use Rattle.endpoints_colours.specs.Colours.{each, ldr};
 ghost use Rattle.endpoints_colours.specs.Marks.{marks_of};
 ghost use Rattle.endpoints_rules.specs.Ldr.{contracted, clamped, clamped_pair, luminance, luminance_offset, luminance_alpha_offset, scaled, direct, offset};
@@ -242,10 +241,10 @@ fn opaque_or(mode: u8, opaque: u8, x: u8) -> u8
     if mode == opaque { 255 } else { x }
 }
 
-// The endpoints of an LDR mode from its values, which are the same in both readings.
+// The endpoints of an LDR mode from its values.
 pub fn decode_ldr(mode: u8, v: Values) -> Endpoints
     requires { (mode < 16) × ((marks_of mode).color ≡ Mark.Ldr) }
-    ensures { (r : Reading) → result ≡ endpoints_of r mode v }
+    ensures { result ≡ endpoints_of mode v }
 {
     match mode {
         0 => luminance_endpoints(v.v0, v.v1, 255, 255),

@@ -1,9 +1,7 @@
 -- The endpoint modes 11, 14 and 15, of high dynamic range.
--- Written from the ASTC chapter's section "HDR Endpoint Decoding"; in the crate's reading the offsets of mode 11 are the original's.
+-- Written from the ASTC chapter's section "HDR Endpoint Decoding"; the offsets of mode 11 are read as the original reads them.
 -- Assumes nothing.
 use Rattle.std.specs.Prelude.{cond, List, [], ◌∷◌, ℕ, ◌+◌, ◌*◌, ◌-◌, ◌/◌, ◌%◌, ◌^◌, eqb, ltb, get_or}
-use Rattle.options.specs.declared.Reading.{Reading}
-use Rattle.options.specs.declared.Reading.TheVariants.{Crate, Standard}
 use Rattle.endpoints_rules.specs.Hdr.{Place, place, bit_at, given, less, rgb, alphas, hdr, swapped}
 use Rattle.endpoints_colours.specs.declared.Mark.TheVariants.{Ldr, Hdr}
 use Rattle.endpoints_colours.specs.declared.Endpoints.{Endpoints}
@@ -17,11 +15,13 @@ pub record Offset : Type 0 where
   pub plus : ℕ
   pub minus : ℕ
 
--- the offset d of n bits, the one place in the endpoints where the readings part. The original gives one whose top bit is set the high bits of a 16-bit number,
--- and it stays large and positive; the standard extends its sign, and the signed number is held with half its range added
-unfoldable pub offset_read : Reading → ℕ → ℕ → Offset
-offset_read Crate n d = record { plus = cond (ltb d (2 ^ (n - 1))) d (d + 65536 - 2 ^ n); minus = 0 }
-offset_read Standard n d = record { plus = (d + 2 ^ (n - 1)) % 2 ^ n; minus = 2 ^ (n - 1) }
+-- the offset d of n bits as the original reads it: where the top bit is set it gets the high bits of a 16-bit number, and stays large and positive
+unfoldable pub crate_offset : ℕ → ℕ → Offset
+crate_offset n d = record { plus = cond (ltb d (2 ^ (n - 1))) d (d + 65536 - 2 ^ n); minus = 0 }
+
+-- the reading of offsets: the one place where the original and the standard part
+abbrev pub offset_read : ℕ → ℕ → Offset
+offset_read = crate_offset
 
 -- ---- the components
 abbrev pub A : ℕ → Place
@@ -100,21 +100,21 @@ up m x = x * 2 ^ (3 - m / 2)
 unfoldable pub under : ℕ → ℕ → ℕ → ℕ → Offset → ℕ
 under m a b c d = less (up m a + up m d.minus) (up m b + up m c + up m d.plus)
 
-unfoldable pub eleven_first : Reading → ℕ → Values → Rgb
-eleven_first r m v =
+unfoldable pub eleven_first : ℕ → Values → Rgb
+eleven_first m v =
     let n = get_or offset_bits m 0 in
-    rgb (less (up m (eleven_a m v)) (up m (eleven_c m v))) (under m (eleven_a m v) (eleven_b0 m v) (eleven_c m v) (offset_read r n (eleven_d0 m v)))
-    (under m (eleven_a m v) (eleven_b1 m v) (eleven_c m v) (offset_read r n (eleven_d1 m v)))
+    rgb (less (up m (eleven_a m v)) (up m (eleven_c m v))) (under m (eleven_a m v) (eleven_b0 m v) (eleven_c m v) (offset_read n (eleven_d0 m v)))
+    (under m (eleven_a m v) (eleven_b1 m v) (eleven_c m v) (offset_read n (eleven_d1 m v)))
 
 unfoldable pub eleven_second : ℕ → Values → Rgb
 eleven_second m v = rgb (less (up m (eleven_a m v)) 0) (less (up m (eleven_a m v)) (up m (eleven_b0 m v))) (less (up m (eleven_a m v)) (up m (eleven_b1 m v)))
 
 -- of the alphas t; where the major component is 3 the values are the colours themselves
-unfoldable pub hdr11 : Reading → Values → Alphas → Endpoints
-hdr11 r v t =
+unfoldable pub hdr11 : Values → Alphas → Endpoints
+hdr11 v t =
     cond (eqb (eleven_major v) 3)
     (hdr (rgb (v.v0 * 16) (v.v2 * 16) (v.v4 % 128 * 32)) (rgb (v.v1 * 16) (v.v3 * 16) (v.v5 % 128 * 32)) t)
-    (hdr (swapped (eleven_major v) (eleven_first r (eleven_mode v) v)) (swapped (eleven_major v) (eleven_second (eleven_mode v) v)) t)
+    (hdr (swapped (eleven_major v) (eleven_first (eleven_mode v) v)) (swapped (eleven_major v) (eleven_second (eleven_mode v) v)) t)
 
 -- ---- the alphas of modes 14 and 15
 abbrev pub plain_alphas : Values → Alphas

@@ -2,7 +2,6 @@
 -- Assumes nothing.
 use Rattle.std.specs.Prelude.{◌≡◌, refl, Bool, true, false, cond, List, [], ◌∷◌, ℕ, zero, suc, ◌/◌, ◌*◌, ◌+◌, eqb, leb, get_or}
 use Rattle.std.proofs.Common.{ap, ◌∙◌}
-use Rattle.options.specs.declared.Reading.{Reading}
 use Rattle.endpoints_colours.specs.Colours.{nothing}
 use Rattle.endpoints_colours.specs.Marks.{Marks, marks, marks_table, marks_of, marks_in}
 use Rattle.endpoints_colours.specs.declared.Mark.{Mark}
@@ -20,9 +19,9 @@ either : {k : Marks} (b : Bool) (e f : Endpoints) → marks_in e ≡ k → marks
 either true e f p q = p
 either false e f p q = q
 
-eleven : (r : Reading) (v : Values) (t : Alphas) → marks_in (hdr11 r v t) ≡ marks Hdr t.mark
+eleven : (v : Values) (t : Alphas) → marks_in (hdr11 v t) ≡ marks Hdr t.mark
 unfolding hdr11
-eleven r v t = either (eqb (eleven_major v) 3) _ _ refl refl
+eleven v t = either (eqb (eleven_major v) 3) _ _ refl refl
 
 either-mark : {m : Mark} (b : Bool) (t u : Alphas) → t.mark ≡ m → u.mark ≡ m → (cond b t u).mark ≡ m
 either-mark true t u p q = p
@@ -62,9 +61,9 @@ alike_at (e ∷ es) [] a i = absurd a
 alike_at (e ∷ es) (k ∷ ks) a zero = a.0
 alike_at (e ∷ es) (k ∷ ks) a (suc i) = alike_at es ks a.1 i
 
-pub marks-are : (r : Reading) (mode : ℕ) (v : Values) → marks_in (endpoints_of r mode v) ≡ marks_of mode
+pub marks-are : (mode : ℕ) (v : Values) → marks_in (endpoints_of mode v) ≡ marks_of mode
 unfolding endpoints_of by_mode marks_of marks_table luminance luminance_offset luminance_alpha_offset scaled hdr7
-marks-are r mode v =
-    alike_at (by_mode r v) marks_table
-    (refl, (refl, (large v.v0 v.v1, (small v.v0 v.v1, (refl, (refl, (refl, (refl, (plain v _ _, (moved v _ _, (refl, (eleven r v _, (plain v _ _, (moved v _ _, (eleven r v _, (eleven r v _ ∙ ap (marks Hdr) (alphas-hdr v), tt))))))))))))))))
+marks-are mode v =
+    alike_at (by_mode v) marks_table
+    (refl, (refl, (large v.v0 v.v1, (small v.v0 v.v1, (refl, (refl, (refl, (refl, (plain v _ _, (moved v _ _, (refl, (eleven v _, (plain v _ _, (moved v _ _, (eleven v _, (eleven v _ ∙ ap (marks Hdr) (alphas-hdr v), tt))))))))))))))))
     mode

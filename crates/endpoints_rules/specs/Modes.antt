@@ -2,7 +2,6 @@
 -- Written from the ASTC chapter's sections "LDR Endpoint Decoding" and "HDR Endpoint Decoding".
 -- Assumes nothing.
 use Rattle.std.specs.Prelude.{List, [], ◌∷◌, ℕ, ◌+◌, get_or}
-use Rattle.options.specs.declared.Reading.{Reading}
 use Rattle.endpoints_colours.specs.Colours.{nothing}
 use Rattle.endpoints_rules.specs.Ldr.{base_of, offset_of, luminance, luminance_offset, luminance_alpha_offset, scaled, direct, offset}
 use Rattle.endpoints_rules.specs.Hdr.{opaque, luminance_large, luminance_small, hdr7}
@@ -11,8 +10,8 @@ use Rattle.endpoints_colours.specs.declared.Endpoints.{Endpoints}
 use Rattle.endpoints_colours.specs.declared.Values.{Values}
 
 -- the endpoints of the modes 0 to 15
-unfoldable pub by_mode : Reading → Values → List Endpoints
-by_mode r v =
+unfoldable pub by_mode : Values → List Endpoints
+by_mode v =
     luminance v.v0 v.v1 255 255
     ∷ luminance_offset v.v0 v.v1
     ∷ luminance_large v.v0 v.v1
@@ -24,12 +23,12 @@ by_mode r v =
     ∷ direct v 255 255
     ∷ offset v (255 + 32) (255 + 32)
     ∷ scaled v v.v4 v.v5
-    ∷ hdr11 r v opaque
+    ∷ hdr11 v opaque
     ∷ direct v v.v6 v.v7
     ∷ offset v (base_of v.v7 v.v6 + 32) (base_of v.v7 v.v6 + offset_of v.v7)
-    ∷ hdr11 r v (plain_alphas v)
-    ∷ hdr11 r v (hdr_alphas v)
+    ∷ hdr11 v (plain_alphas v)
+    ∷ hdr11 v (hdr_alphas v)
     ∷ []
 
-unfoldable pub endpoints_of : Reading → ℕ → Values → Endpoints
-endpoints_of r m v = get_or (by_mode r v) m nothing
+unfoldable pub endpoints_of : ℕ → Values → Endpoints
+endpoints_of m v = get_or (by_mode v) m nothing

@@ -1,8 +1,6 @@
--- An image painted whole, and in steps, by the options o and without any. The bytes d are sixteen for each block.
+-- An image painted whole, and in steps. The bytes d are sixteen for each block.
 -- Assumes nothing.
 use Rattle.std.specs.Prelude.{cond, List, ℕ, ◌+◌, ◌-◌, min, eqb, length}
-use Rattle.options.specs.Base.{base}
-use Rattle.options.specs.declared.Options.{Options}
 use Rattle.image_shape.specs.Shapes.{total_of, refusal_of, step_refusal}
 use Rattle.image_shape.specs.declared.Shape.{Shape}
 use Rattle.image_blocks.specs.Painted.{painted_blocks, bad_in}
@@ -10,8 +8,8 @@ use Rattle.image.specs.declared.Cursor.{Cursor}
 use Rattle.image.specs.declared.Step.{Step}
 
 -- ---- the whole image
-unfoldable pub image_with : Options → List ℕ → Shape → List ℕ → List ℕ
-image_with o d m out = cond (eqb (refusal_of m (length d) (length out)) 0) (painted_blocks o d m 0 (total_of m) out) out
+unfoldable pub image_of : List ℕ → Shape → List ℕ → List ℕ
+image_of d m out = cond (eqb (refusal_of m (length d) (length out)) 0) (painted_blocks d m 0 (total_of m) out) out
 
 -- ---- steps
 abbrev pub step_answer : Cursor → ℕ → ℕ → ℕ → ℕ
@@ -33,23 +31,13 @@ moved_by c n bad = record {
 unfoldable pub refused_at : Cursor → ℕ → Step
 refused_at c a = record { answer = a; cursor = c; painted = 0; bad = 0 }
 
-unfoldable pub step_with : Options → List ℕ → Cursor → ℕ → ℕ → Step
-step_with o d c blocks room =
+unfoldable pub step_of : List ℕ → Cursor → ℕ → ℕ → Step
+step_of d c blocks room =
     let a = step_answer c (length d) blocks room in
     let n = painted_by c blocks in
-    cond (eqb a 0) (moved_by c n (bad_in o d c.shape c.next n)) (refused_at c a)
+    cond (eqb a 0) (moved_by c n (bad_in d c.shape c.next n)) (refused_at c a)
 
 -- what the output holds afterwards
-unfoldable pub stepped_with : Options → List ℕ → Cursor → ℕ → List ℕ → List ℕ
-stepped_with o d c blocks out =
-    cond (eqb (step_answer c (length d) blocks (length out)) 0) (painted_blocks o d c.shape c.next (c.next + painted_by c blocks) out) out
-
--- ---- without options
-abbrev pub image_of : List ℕ → Shape → List ℕ → List ℕ
-image_of = image_with base
-
-abbrev pub step_of : List ℕ → Cursor → ℕ → ℕ → Step
-step_of = step_with base
-
-abbrev pub stepped : List ℕ → Cursor → ℕ → List ℕ → List ℕ
-stepped = stepped_with base
+unfoldable pub stepped : List ℕ → Cursor → ℕ → List ℕ → List ℕ
+stepped d c blocks out =
+    cond (eqb (step_answer c (length d) blocks (length out)) 0) (painted_blocks d c.shape c.next (c.next + painted_by c blocks) out) out

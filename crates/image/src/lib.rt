@@ -1,10 +1,9 @@
 // An image painted whole, or in steps by a cursor.
 ghost use Rattle.std.specs.Prelude.{◌≡◌, ◌+◌, ◌^◌, ◌<◌, min, length};
 ghost use Rattle.image_shape.specs.Shapes.{refusal_of};
-ghost use Rattle.image.specs.Image.{image_of, image_with, refused_at, moved_by, step_of, step_with, stepped, stepped_with};
+ghost use Rattle.image.specs.Image.{image_of, refused_at, moved_by, step_of, stepped};
 
 use image_shape::Shape;
-use options::Options;
 
 // An image on its way: the blocks before `next` are painted.
 #[derive(Drop)]
@@ -64,37 +63,29 @@ fn moved(c: Cursor, n: usize, bad: usize) -> Step
     }
 }
 
-// Paints the image of its blocks' bytes by options and gives the answer; a refusal leaves the
-// output as it was.
-pub fn decode_astc_with(o: Options, data: &[u8], m: Shape, out: &mut [u32]) -> usize
+// Paints the image of its blocks' bytes and gives the answer; a refusal leaves the output as it
+// was.
+pub fn decode_astc(data: &[u8], m: Shape, out: &mut [u32]) -> usize
     ensures value { result ≡ refusal_of m (length «data».now) (length out.old) }
-    ensures out_after { out.new ≡ image_with o «data».now m out.old }
+    ensures out_after { out.new ≡ image_of «data».now m out.old }
 {
     let a = image_shape::refusal(m, data.len(), out.len());
     if a != 0 {
         return a;
     }
     let end = image_shape::total(m);
-    image_blocks::paint_blocks(o, data, m, 0, end, out);
+    image_blocks::paint_blocks(data, m, 0, end, out);
     answers::LEGAL
 }
 
-// The same without options.
-pub fn decode_astc(data: &[u8], m: Shape, out: &mut [u32]) -> usize
-    ensures value { result ≡ refusal_of m (length «data».now) (length out.old) }
-    ensures out_after { out.new ≡ image_of «data».now m out.old }
-{
-    decode_astc_with(options::no_options(), data, m, out)
-}
-
 impl Cursor {
-    // Paints the next blocks by options, as many as are asked for or are left. A refused step hands
-    // the cursor back as given.
-    pub fn step_with(self, o: Options, data: &[u8], blocks: usize, out: &mut [u32]) -> Step
+    // Paints the next blocks, as many as are asked for or are left. A refused step hands the cursor
+    // back as given.
+    pub fn step(self, data: &[u8], blocks: usize, out: &mut [u32]) -> Step
         ensures value { result ≡
-            step_with o «data».now self blocks (length out.old) }
+            step_of «data».now self blocks (length out.old) }
         ensures out_after { out.new ≡
-            stepped_with o «data».now self blocks out.old }
+            stepped «data».now self blocks out.old }
     {
         let m = self.shape;
         let next = self.next;
@@ -104,17 +95,7 @@ impl Cursor {
         }
         let end = image_shape::total(m);
         let n = smaller(blocks, end - next);
-        let bad = image_blocks::paint_blocks(o, data, m, next, next + n, out);
+        let bad = image_blocks::paint_blocks(data, m, next, next + n, out);
         moved(self, n, bad)
-    }
-
-    // The same without options.
-    pub fn step(self, data: &[u8], blocks: usize, out: &mut [u32]) -> Step
-        ensures value { result ≡
-            step_of «data».now self blocks (length out.old) }
-        ensures out_after { out.new ≡
-            stepped «data».now self blocks out.old }
-    {
-        self.step_with(options::no_options(), data, blocks, out)
     }
 }

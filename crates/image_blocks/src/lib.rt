@@ -9,17 +9,8 @@ ghost use Rattle.image_shape.specs.ShapeLaws.{Sized};
 ghost use Rattle.image_blocks.specs.Painted.{painted_blocks, bad_in};
 ghost use Rattle.image_blocks.specs.Spots.{At, next_of};
 
-use block_ordinary::Task;
 use image_shape::Shape;
 use lanes::{Form, LANES};
-use options::Options;
-
-// An image, and the options by which its blocks are painted.
-#[derive(Drop)]
-pub struct Job {
-    pub options: Options,
-    pub shape: Shape,
-}
 
 // A block of an image: its number, its column and its row.
 #[derive(Drop)]
@@ -59,89 +50,59 @@ fn bad_of(answer: usize) -> usize
 fn paint_block<'a>(
     trits: &'a [u16; 256],
     quints: &'a [u16; 128],
-    job: Job,
     data: &[u8],
+    m: Shape,
     at: Spot,
     lanes: &mut [u16; LANES],
     out: &mut [u32],
 ) -> usize
     requires lent { Lent trits.now quints.now }
-    requires sized { Sized job.shape (length «data».now) (length out.old) }
-    requires block_bound { at.block < total_of job.shape }
-    requires at { At job.shape at }
+    requires sized { Sized m (length «data».now) (length out.old) }
+    requires block_bound { at.block < total_of m }
+    requires at { At m at }
     requires lanes_len { length lanes.old ≡ most_lanes }
-    ensures value { result ≡
-        map_answer job.options (bytes_of «data».now at.block)
-        job.shape.footprint }
+    ensures value { result ≡ map_answer (bytes_of «data».now at.block) m.footprint }
     ensures lanes_len_2 { length lanes.new ≡ most_lanes }
     ensures out_after { out.new ≡
-        painted_blocks job.options «data».now job.shape at.block (at.block + 1)
-        out.old }
+        painted_blocks «data».now m at.block (at.block + 1) out.old }
 {
-    let o = job.options;
-    let m = job.shape;
     let start = 16 * at.block;
     let end = start + 16;
     let b = block_load::load(&data[start..end]);
-    let a = block_void::void_answer(o, b);
+    let a = block_void::void_answer(b);
     if a == answers::VOID_EXTENT {
         image_window::fill_block(block_void::void_color(b), m, at.column, at.row, out);
         return a;
     }
-    let task = Task {
-        options: o,
-        form: Form::Words,
-    };
-    let answer = block_ordinary::decode_ordinary(trits, quints, b, m.footprint, lanes, task);
+    let answer = block_ordinary::decode_ordinary(trits, quints, b, m.footprint, lanes, Form::Words);
     if answer == answers::LEGAL {
         image_window::copy_block(lanes, m, at.column, at.row, out);
         return answers::LEGAL;
     }
-    image_window::fill_block(block_void::color_of(answer, b), m, at.column, at.row, out);
+    image_window::fill_block(block::MAGENTA, m, at.column, at.row, out);
     answer
 }
 
 // Paints the blocks from `first` to before `end`, and counts those that break a rule.
-pub fn paint_blocks(
-    o: Options,
-    data: &[u8],
-    m: Shape,
-    first: usize,
-    end: usize,
-    out: &mut [u32],
-) -> usize
+pub fn paint_blocks(data: &[u8], m: Shape, first: usize, end: usize, out: &mut [u32]) -> usize
     requires sized { Sized m (length «data».now) (length out.old) }
     requires first_le_end { first ≤ end }
     requires end_bound { end ≤ total_of m }
-    ensures value { result ≡ bad_in o «data».now m first (end - first) }
+    ensures value { result ≡ bad_in «data».now m first (end - first) }
     ensures out_after { out.new ≡
-        painted_blocks o «data».now m first end out.old }
+        painted_blocks «data».now m first end out.old }
 {
-    let job = Job {
-        options: o,
-        shape: m,
-    };
     let tables = block_tables::make_tables();
     let mut lanes = [0u16; LANES];
     let across = image_shape::along(m.width, m.footprint.width);
-    let column = first % across;
-    let row = first / across;
     let mut at = Spot {
         block: first,
-        column,
-        row,
+        column: first % across,
+        row: first / across,
     };
     let mut bad = 0;
     while at.block < end {
-        bad += bad_of(paint_block(
-            &tables.trits,
-            &tables.quints,
-            job,
-            data,
-            at,
-            &mut lanes,
-            out,
-        ));
+        bad += bad_of(paint_block(&tables.trits, &tables.quints, data, m, at, &mut lanes, out));
         at = next(at, across);
     }
     bad

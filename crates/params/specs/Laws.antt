@@ -10,11 +10,8 @@ use Rattle.laws.specs.Numbers.{choice}
 use Rattle.bits.specs.Bits.{bits_at, reversed}
 use Rattle.bits.specs.BitLaws.{bits-lt}
 use Rattle.bits_reversal.specs.ReversalLaws.{reversed-top}
-use Rattle.options.specs.declared.Options.{Options}
 use Rattle.footprint.specs.declared.Footprint.{Footprint}
-use Rattle.params_low.specs.Low.{is_void, low_of, extent_in}
-use Rattle.params_extent.specs.Extent.{void_verdict}
-use Rattle.params_extent.specs.ExtentLaws.{void-some}
+use Rattle.params_low.specs.Low.{is_void, low_of}
 use Rattle.params_modes.specs.Modes.{values_to}
 use Rattle.params_modes.specs.ModeLaws.{Coded, values_low}
 use Rattle.params_config.specs.Config.{is_reserved, config_of}
@@ -22,7 +19,7 @@ use Rattle.params_config.specs.Bounds.{ConfigBounds}
 use Rattle.params_config.specs.declared.Config.{Config}
 use Rattle.params_rules.specs.Rules.{used, verdict}
 use Rattle.params_rules.specs.Fields.{Fields, fields_of, extra_in, answer}
-use Rattle.params_rules.specs.FieldLaws.{ordinary, low-is, extra-is, told-void, told-reserved, told-rule}
+use Rattle.params_rules.specs.FieldLaws.{ordinary, low-is, extra-is, told-reserved, told-rule}
 use Rattle.params_room.specs.RoomLaws.{Widest, range-is}
 use Rattle.params_map.specs.Map.{legal_map, map_in, map_of}
 use Rattle.params_map.specs.MapLaws.{map-answer, map-legal, in_order, Mapped, SameBlock, unmapped}
@@ -30,40 +27,37 @@ use Rattle.params.specs.Params.{upper_of, code_in, legal, refused, params_in, pa
 use Rattle.params.specs.declared.Params.{Params}
 
 -- ---- by the answer
-module _ (o : Options) (t : Fields) (f : Footprint) where
-  pub answer-is : (params_in o t f).answer ≡ answer o t f
+module _ (t : Fields) (f : Footprint) where
+  pub answer-is : (params_in t f).answer ≡ answer t f
   unfolding params_in legal refused
-  answer-is = go (answer o t f) (eqb (answer o t f) 0) refl
+  answer-is = go (answer t f) (eqb (answer t f) 0) refl
     where
-      go : (a : ℕ) (b : Bool) → eqb a 0 ≡ b → (cond b (legal o (config_of t.low) t.extra) (refused o a)).answer ≡ a
+      go : (a : ℕ) (b : Bool) → eqb a 0 ≡ b → (cond b (legal (config_of t.low) t.extra) (refused a)).answer ≡ a
       go a true e = sym (eqb-true _ _ e)
       go a false e = refl
 
-  pub legal-is : answer o t f ≡ 0 → params_in o t f ≡ legal o (config_of t.low) t.extra
+  pub legal-is : answer t f ≡ 0 → params_in t f ≡ legal (config_of t.low) t.extra
   unfolding params_in
   legal-is e = rw e
 
-  pub refused-is : (a : ℕ) → answer o t f ≡ a → (a ≡ 0 → ⊥) → params_in o t f ≡ refused o a
+  pub refused-is : (a : ℕ) → answer t f ≡ a → (a ≡ 0 → ⊥) → params_in t f ≡ refused a
   unfolding params_in
   refused-is a e z = rw (e, ne_eqb a 0 z)
 
--- ---- the ways out of the code, by its flags and its parts' results
-pub out-void : (o : Options) (v : ℕ) (f : Footprint) (a : ℕ) (r : Params) (w : Bool) → w ≡ is_void v → w ≡ true → a ≡ void_verdict o.reading (extent_in v) → r ≡ refused o a → r ≡ params_of o v f
-out-void o v f a r w i j e g = g ∙ sym (refused-is o (fields_of v) f a (told-void o v f w i j a e) (λ z. void-some _ o.reading (sym e ∙ z)))
+-- ---- the ways out of the code for a block that is not void, by its flag and its parts' results
+pub out-reserved : (v : ℕ) (f : Footprint) (c : ℕ) (r : Params) (s : Bool) → c ≡ low_of v → is_void v ≡ false → s ≡ is_reserved c → s ≡ true → r ≡ refused 10 → r ≡ params_of v f
+out-reserved v f c r s q h m n g = g ∙ sym (refused-is (fields_of v) f 10 (told-reserved v f (is_void v) refl h c q s m n) (λ x. omega arith))
 
-pub out-reserved : (o : Options) (v : ℕ) (f : Footprint) (c : ℕ) (r : Params) (w s : Bool) → c ≡ low_of v → w ≡ is_void v → w ≡ false → s ≡ is_reserved c → s ≡ true → r ≡ refused o 10 → r ≡ params_of o v f
-out-reserved o v f c r w s q i j m n g = g ∙ sym (refused-is o (fields_of v) f 10 (told-reserved o v f w i j c q s m n) (λ x. omega arith))
+pub out-rule : (v : ℕ) (f : Footprint) (c a : ℕ) (k : Config) (r : Params) (s : Bool) → c ≡ low_of v → is_void v ≡ false → s ≡ is_reserved c → s ≡ false → k ≡ config_of c → a ≡ verdict k f → (a ≡ 0 → ⊥) → r ≡ refused a → r ≡ params_of v f
+out-rule v f c a k r s q h m n o p z g = g ∙ sym (refused-is (fields_of v) f a (told-rule v f (is_void v) refl h c q s m n k o a p) z)
 
-pub out-rule : (o : Options) (v : ℕ) (f : Footprint) (c a : ℕ) (k : Config) (r : Params) (w s : Bool) → c ≡ low_of v → w ≡ is_void v → w ≡ false → s ≡ is_reserved c → s ≡ false → k ≡ config_of c → a ≡ verdict k f → (a ≡ 0 → ⊥) → r ≡ refused o a → r ≡ params_of o v f
-out-rule o v f c a k r w s q i j m n l p z g = g ∙ sym (refused-is o (fields_of v) f a (told-rule o v f w i j c q s m n k l a p) z)
-
-pub out-legal : (o : Options) (v : ℕ) (f : Footprint) (c a : ℕ) (k : Config) (r : Params) (w s : Bool) → c ≡ low_of v → w ≡ is_void v → w ≡ false → s ≡ is_reserved c → s ≡ false → k ≡ config_of c → a ≡ verdict k f → a ≡ 0 → r ≡ legal o k (extra_in k v) → r ≡ params_of o v f
-out-legal o v f c a k r w s q i j m n l p z g =
-    let d : k ≡ config_of (low_of v) = l ∙ ap config_of q in
-    g ∙ ap (λ (x : Config). legal o x (extra_in x v)) d
-    ∙ ap (legal o (config_of (low_of v))) (sym (extra-is v))
-    ∙ ap (λ (x : ℕ). legal o (config_of x) (fields_of v).extra) (sym (low-is v))
-    ∙ sym (legal-is o (fields_of v) f (told-rule o v f w i j c q s m n k l a p ∙ z))
+pub out-legal : (v : ℕ) (f : Footprint) (c a : ℕ) (k : Config) (r : Params) (s : Bool) → c ≡ low_of v → is_void v ≡ false → s ≡ is_reserved c → s ≡ false → k ≡ config_of c → a ≡ verdict k f → a ≡ 0 → r ≡ legal k (extra_in k v) → r ≡ params_of v f
+out-legal v f c a k r s q h m n o p z g =
+    let d : k ≡ config_of (low_of v) = o ∙ ap config_of q in
+    g ∙ ap (λ (x : Config). legal x (extra_in x v)) d
+    ∙ ap (legal (config_of (low_of v))) (sym (extra-is v))
+    ∙ ap (λ (x : ℕ). legal (config_of x) (fields_of v).extra) (sym (low-is v))
+    ∙ sym (legal-is (fields_of v) f (told-rule v f (is_void v) refl h c q s m n k o a p ∙ z))
 
 -- ---- the extra field has ten bits at most
 extra-lt : (v s n : ℕ) → n ≤ 10 → bits_at v s n < 1024
@@ -103,56 +97,56 @@ code-values k e p h = go (eqb k.base 0) refl
     go false z = values_low k.base k.low_modes (upper_of k.planes e) p (eqb-false _ _ z) h
 
 -- ---- a legal block's range is the widest that has room
-pub range-widest : (o : Options) (v : ℕ) (f : Footprint) → (params_of o v f).answer ≡ 0 → Widest 20 (params_of o v f).config.values (used (params_of o v f).config) (params_of o v f).endpoint_range
+pub range-widest : (v : ℕ) (f : Footprint) → (params_of v f).answer ≡ 0 → Widest 20 (params_of v f).config.values (used (params_of v f).config) (params_of v f).endpoint_range
 unfolding legal
-range-widest o v f e =
-    let a : answer o (fields_of v) f ≡ 0 = sym (answer-is o (fields_of v) f) ∙ e in
-    rw (legal-is o (fields_of v) f a) (range-is _ f (ordinary o (fields_of v) f a).rules)
+range-widest v f e =
+    let a : answer (fields_of v) f ≡ 0 = sym (answer-is (fields_of v) f) ∙ e in
+    rw (legal-is (fields_of v) f a) (range-is _ f (ordinary (fields_of v) f a).rules)
 
 -- ---- locality: a block that has the same fields has the same parameters and the same map
-pub params_same : (o : Options) (v w : ℕ) (f : Footprint) → fields_of v ≡ fields_of w → params_of o v f ≡ params_of o w f
-params_same o v w f e = ap (λ (t : Fields). params_in o t f) e
+pub params_same : (v w : ℕ) (f : Footprint) → fields_of v ≡ fields_of w → params_of v f ≡ params_of w f
+params_same v w f e = ap (λ (t : Fields). params_in t f) e
 
-pub map_same : (o : Options) (v w : ℕ) (f : Footprint) → fields_of v ≡ fields_of w → map_of o v f ≡ map_of o w f
-map_same o v w f e = ap (λ (t : Fields). map_in o t f) e
+pub map_same : (v w : ℕ) (f : Footprint) → fields_of v ≡ fields_of w → map_of v f ≡ map_of w f
+map_same v w f e = ap (λ (t : Fields). map_in t f) e
 
 -- the map and the parameters give the same answer, and name the same endpoints and weights
-pub one_answer : (o : Options) (v : ℕ) (f : Footprint) → (map_of o v f).answer ≡ (params_of o v f).answer
-one_answer o v f = map-answer o (fields_of v) f ∙ sym (answer-is o (fields_of v) f)
+pub one_answer : (v : ℕ) (f : Footprint) → (map_of v f).answer ≡ (params_of v f).answer
+one_answer v f = map-answer (fields_of v) f ∙ sym (answer-is (fields_of v) f)
 
-pub ends-mapped : (o : Options) (v w : ℕ) (f : Footprint) → (params_of o v f).answer ≡ 0 → bits_at w (map_of o v f).end_at (map_of o v f).end_len ≡ ends_field (params_of o v f) w
+pub ends-mapped : (v w : ℕ) (f : Footprint) → (params_of v f).answer ≡ 0 → bits_at w (map_of v f).end_at (map_of v f).end_len ≡ ends_field (params_of v f) w
 unfolding legal legal_map
-ends-mapped o v w f e =
-    let a : answer o (fields_of v) f ≡ 0 = sym (answer-is o (fields_of v) f) ∙ e in
-    rw (map-legal o (fields_of v) f a, legal-is o (fields_of v) f a)
+ends-mapped v w f e =
+    let a : answer (fields_of v) f ≡ 0 = sym (answer-is (fields_of v) f) ∙ e in
+    rw (map-legal (fields_of v) f a, legal-is (fields_of v) f a)
 
-weights-len : (o : Options) (v : ℕ) (f : Footprint) → (params_of o v f).answer ≡ 0 → (map_of o v f).weight_len ≡ (params_of o v f).config.weight_len
+weights-len : (v : ℕ) (f : Footprint) → (params_of v f).answer ≡ 0 → (map_of v f).weight_len ≡ (params_of v f).config.weight_len
 unfolding legal legal_map
-weights-len o v f e =
-    let a : answer o (fields_of v) f ≡ 0 = sym (answer-is o (fields_of v) f) ∙ e in
-    rw (map-legal o (fields_of v) f a, legal-is o (fields_of v) f a)
+weights-len v f e =
+    let a : answer (fields_of v) f ≡ 0 = sym (answer-is (fields_of v) f) ∙ e in
+    rw (map-legal (fields_of v) f a, legal-is (fields_of v) f a)
 
-pub weights-mapped : (o : Options) (v w : ℕ) (f : Footprint) → (params_of o v f).answer ≡ 0 → reversed (map_of o v f).weight_len (bits_at w (map_of o v f).weight_at (map_of o v f).weight_len) ≡ weights_field (params_of o v f) w
-weights-mapped o v w f e =
-    let m = map_of o v f in
-    let r = in_order o v f (one_answer o v f ∙ e) in
-    let s : m.weight_at ≡ 128 - m.weight_len = omega (arith, r.last) in
-    rw (s, ← (weights-len o v f e)) (sym (reversed-top 128 m.weight_len w (omega (arith, r.last))))
+pub weights-mapped : (v w : ℕ) (f : Footprint) → (params_of v f).answer ≡ 0 → reversed (map_of v f).weight_len (bits_at w (map_of v f).weight_at (map_of v f).weight_len) ≡ weights_field (params_of v f) w
+weights-mapped v w f e =
+    let m = map_of v f in
+    let o = in_order v f (one_answer v f ∙ e) in
+    let s : m.weight_at ≡ 128 - m.weight_len = omega (arith, o.last) in
+    rw (s, ← (weights-len v f e)) (sym (reversed-top 128 m.weight_len w (omega (arith, o.last))))
 
 -- whatever stands at the unmapped bits of a legal block, its fields, parameters, endpoints and weights are the same
-pub record SameParams (o : Options) (v w : ℕ) (f : Footprint) : Type 0 where
+pub record SameParams (v w : ℕ) (f : Footprint) : Type 0 where
   pub fields : fields_of v ≡ fields_of w
-  pub params : params_of o v f ≡ params_of o w f
-  pub ends : ends_field (params_of o v f) v ≡ ends_field (params_of o v f) w
-  pub weights : weights_field (params_of o v f) v ≡ weights_field (params_of o v f) w
+  pub params : params_of v f ≡ params_of w f
+  pub ends : ends_field (params_of v f) v ≡ ends_field (params_of v f) w
+  pub weights : weights_field (params_of v f) v ≡ weights_field (params_of v f) w
 
-pub local : (o : Options) (v w : ℕ) (f : Footprint) → (params_of o v f).answer ≡ 0 → ((k : ℕ) → Mapped (map_of o v f) k → bits_at v k 1 ≡ bits_at w k 1) → SameParams o v w f
-local o v w f e h =
-    let m = map_of o v f in
-    let s : SameBlock v w m = unmapped o v w f (one_answer o v f ∙ e) h in
+pub local : (v w : ℕ) (f : Footprint) → (params_of v f).answer ≡ 0 → ((k : ℕ) → Mapped (map_of v f) k → bits_at v k 1 ≡ bits_at w k 1) → SameParams v w f
+local v w f e h =
+    let m = map_of v f in
+    let s : SameBlock v w m = unmapped v w f (one_answer v f ∙ e) h in
     record {
       fields = s.fields;
-      params = params_same o v w f s.fields;
-      ends = sym (ends-mapped o v v f e) ∙ s.ends ∙ ends-mapped o v w f e;
-      weights = sym (weights-mapped o v v f e) ∙ ap (reversed m.weight_len) s.weights ∙ weights-mapped o v w f e;
+      params = params_same v w f s.fields;
+      ends = sym (ends-mapped v v f e) ∙ s.ends ∙ ends-mapped v w f e;
+      weights = sym (weights-mapped v v f e) ∙ ap (reversed m.weight_len) s.weights ∙ weights-mapped v w f e;
     }

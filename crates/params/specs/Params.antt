@@ -3,7 +3,6 @@
 -- Assumes nothing.
 use Rattle.std.specs.Prelude.{cond, [], ◌∷◌, ℕ, ◌+◌, ◌*◌, ◌/◌, ◌%◌, eqb}
 use Rattle.answers.specs.Answers.{legal as legal_answer}
-use Rattle.options.specs.declared.Options.{Options}
 use Rattle.footprint.specs.declared.Footprint.{Footprint}
 use Rattle.bits.specs.Bits.{bits_at, reversed}
 use Rattle.params_modes.specs.Modes.{modes_of}
@@ -25,11 +24,10 @@ upper_of planes e = cond (eqb planes 2) (e / 4) e
 unfoldable pub code_in : Config → ℕ → ℕ
 code_in k e = cond (eqb k.base 0) k.low_modes (k.low_modes + 16 * upper_of k.planes e)
 
--- ---- the parameters of a legal block, of which the low configuration says k and whose extra field is e. The options o, by which it is decoded, go with them
-unfoldable pub legal : Options → Config → ℕ → Params
-legal o k e = record {
+-- ---- the parameters of a legal block, of which the low configuration says k and whose extra field is e
+unfoldable pub legal : Config → ℕ → Params
+legal k e = record {
   answer = legal_answer;
-  options = o;
   config = k;
   channel = channel_of k.planes e;
   mode_code = code_in k e;
@@ -41,16 +39,16 @@ abbrev pub no_config : Config
 no_config = record { width = 0; height = 0; weight_range = 0; planes = 0; parts = 0; number = 0; base = 0; low_modes = 0; values = 0; low_len = 0; mode_bits = 0; weight_len = 0 }
 
 -- of any other block
-unfoldable pub refused : Options → ℕ → Params
-refused o a = record { answer = a; options = o; config = no_config; channel = 0; mode_code = 0; modes = 0 ∷ 0 ∷ 0 ∷ 0 ∷ []; endpoint_range = 0 }
+unfoldable pub refused : ℕ → Params
+refused a = record { answer = a; config = no_config; channel = 0; mode_code = 0; modes = 0 ∷ 0 ∷ 0 ∷ 0 ∷ []; endpoint_range = 0 }
 
 -- of a block with the fields t at the footprint f
-unfoldable pub params_in : Options → Fields → Footprint → Params
-params_in o t f = cond (eqb (answer o t f) legal_answer) (legal o (config_of t.low) t.extra) (refused o (answer o t f))
+unfoldable pub params_in : Fields → Footprint → Params
+params_in t f = cond (eqb (answer t f) legal_answer) (legal (config_of t.low) t.extra) (refused (answer t f))
 
 -- of the block v
-abbrev pub params_of : Options → ℕ → Footprint → Params
-params_of o v f = params_in o (fields_of v) f
+abbrev pub params_of : ℕ → Footprint → Params
+params_of v f = params_in (fields_of v) f
 
 -- ---- the other two fields of a block v with the parameters p
 abbrev pub ends_field : Params → ℕ → ℕ

@@ -1,6 +1,7 @@
 // The parameters of a block: its answer, its configuration, its endpoint modes and their range.
-ghost use Rattle.std.specs.Prelude.{◌≡◌, ◌+◌, ◌<◌};
+ghost use Rattle.std.specs.Prelude.{◌≡◌, false, ◌+◌, ◌<◌};
 ghost use Rattle.bits.specs.Blocks.{value_of};
+ghost use Rattle.params_low.specs.Low.{is_void};
 ghost use Rattle.params_modes.specs.ModeLaws.{Coded};
 ghost use Rattle.params_rules.specs.Fields.{extra_in};
 ghost use Rattle.params_room.specs.RoomLaws.{LegalConfig};
@@ -8,15 +9,13 @@ ghost use Rattle.params.specs.Params.{channel_of, upper_of, code_in, legal, refu
 
 use bits::Block;
 use footprint::Footprint;
-use options::Options;
 use params_config::Config;
 
 // The mode code is the mode bits as they stand in a block, as one number; the base that goes with
-// it stands in the configuration. The options are those that the block is decoded by.
+// it stands in the configuration.
 #[derive(Drop)]
 pub struct Params {
     pub answer: usize,
-    pub options: Options,
     pub config: Config,
     pub channel: usize,
     pub mode_code: usize,
@@ -59,16 +58,15 @@ fn mode_code(k: Config, e: usize) -> usize
 }
 
 // The parameters of a legal block: k is what its low configuration says.
-fn accept(o: Options, b: Block, k: Config) -> Params
+fn accept(b: Block, k: Config) -> Params
     requires { LegalConfig k }
-    ensures { result ≡ legal o k (extra_in k (value_of b)) }
+    ensures { result ≡ legal k (extra_in k (value_of b)) }
 {
     let endpoint_range = params_room::end_range(k);
     let e = extra_field(b, k);
     let code = mode_code(k, e);
     Params {
         answer: answers::LEGAL,
-        options: o,
         config: k,
         channel: channel_of(k.planes, e),
         mode_code: code,
@@ -77,12 +75,11 @@ fn accept(o: Options, b: Block, k: Config) -> Params
     }
 }
 
-fn refuse(o: Options, answer: usize) -> Params
-    ensures { result ≡ refused o answer }
+fn refuse(answer: usize) -> Params
+    ensures { result ≡ refused answer }
 {
     Params {
         answer,
-        options: o,
         config: Config {
             width: 0,
             height: 0,
@@ -104,25 +101,22 @@ fn refuse(o: Options, answer: usize) -> Params
     }
 }
 
-// The parameters of the block b at the footprint f. The decoder has this function to itself, where
-// params_map has the map: it is then compiled into the decoder, and what nobody reads there is not
-// worked out.
-pub fn decode_block_params(o: Options, b: Block, f: Footprint) -> Params
-    ensures { result ≡ params_of o (value_of b) f }
+// The parameters of the block b, which is not void, at the footprint f. The decoder has this
+// function to itself, where params_map has the map: it is then compiled into the decoder, and what
+// nobody reads there is not worked out.
+pub fn decode_block_params(b: Block, f: Footprint) -> Params
+    requires { is_void (value_of b) ≡ false }
+    ensures { result ≡ params_of (value_of b) f }
 {
-    if params_low::is_void(b) {
-        let reading = o.reading;
-        return refuse(o, params_extent::void_verdict(reading, b));
-    }
     let c = params_low::low_config(b);
     if params_config::is_reserved(c) {
-        return refuse(o, answers::RESERVED_MODE);
+        return refuse(answers::RESERVED_MODE);
     }
     let k = params_config::read_config(c);
     let a = params_rules::judge(k, f);
     if a == answers::LEGAL {
-        accept(o, b, k)
+        accept(b, k)
     } else {
-        refuse(o, a)
+        refuse(a)
     }
 }

@@ -17,8 +17,5 @@ unfoldable pub low_of : ℕ → ℕ
 low_of v = bits_at v 0 (conf_len (bits_at v 11 2 + 1))
 
 -- the extent of a void block with the two bits below it: bits 10..63. Any other block has none
-abbrev pub extent_in : ℕ → ℕ
-extent_in v = bits_at v 10 54
-
 unfoldable pub extent_of : ℕ → ℕ
-extent_of v = cond (is_void v) (extent_in v) 0
+extent_of v = cond (is_void v) (bits_at v 10 54) 0

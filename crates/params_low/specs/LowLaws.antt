@@ -5,7 +5,7 @@ use Rattle.std.proofs.Common.{sym, ap, ◌∙◌, arith}
 use Rattle.laws.specs.Numbers.{choice-le}
 use Rattle.bits.specs.Bits.{bits_at}
 use Rattle.bits.specs.BitLaws.{locality, same_bits}
-use Rattle.params_low.specs.Low.{is_void, conf_len, low_of, extent_in, extent_of}
+use Rattle.params_low.specs.Low.{is_void, conf_len, low_of, extent_of}
 
 -- ---- how long it is
 pub conf-most : (p : ℕ) → conf_len p ≤ 29
@@ -44,11 +44,7 @@ low_same v w s =
     let e : bits_at v 11 2 ≡ bits_at w 11 2 = same_bits v w 11 2 (λ k a b. s' k (omega arith) (omega (arith, conf-least p))) in
     same_bits v w 0 (conf_len p) s' ∙ ap (λ (x : ℕ). bits_at w 0 (conf_len (x + 1))) e
 
--- ---- a block that is not void has no extent
+-- a block that is not void has no extent
 pub extent-none : (v : ℕ) → is_void v ≡ false → extent_of v ≡ 0
 unfolding extent_of
 extent-none v e = rw e
-
-pub extent-is : (v : ℕ) → is_void v ≡ true → extent_of v ≡ extent_in v
-unfolding extent_of
-extent-is v e = rw e

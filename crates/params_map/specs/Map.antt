@@ -3,7 +3,6 @@
 -- Assumes nothing.
 use Rattle.std.specs.Prelude.{cond, ℕ, ◌-◌, eqb}
 use Rattle.answers.specs.Answers.{legal}
-use Rattle.options.specs.declared.Options.{Options}
 use Rattle.footprint.specs.declared.Footprint.{Footprint}
 use Rattle.sequence_ranges.specs.Ranges.{top_of}
 use Rattle.params_config.specs.Ranges.{cost}
@@ -33,10 +32,10 @@ legal_map k = record {
 unfoldable pub no_map : ℕ → BlockMap
 no_map a = record { answer = a; top = 0; low_at = 0; low_len = 0; end_at = 0; end_len = 0; extra_at = 0; extra_len = 0; weight_at = 0; weight_len = 0 }
 
--- of a block with the fields t at the footprint f, by the options o
-unfoldable pub map_in : Options → Fields → Footprint → BlockMap
-map_in o t f = cond (eqb (answer o t f) legal) (legal_map (config_of t.low)) (no_map (answer o t f))
+-- of a block with the fields t at the footprint f
+unfoldable pub map_in : Fields → Footprint → BlockMap
+map_in t f = cond (eqb (answer t f) legal) (legal_map (config_of t.low)) (no_map (answer t f))
 
 -- of the block v
-abbrev pub map_of : Options → ℕ → Footprint → BlockMap
-map_of o v f = map_in o (fields_of v) f
+abbrev pub map_of : ℕ → Footprint → BlockMap
+map_of v f = map_in (fields_of v) f

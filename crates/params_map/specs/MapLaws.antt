@@ -8,12 +8,9 @@ use borrow.Author.Tests.{ne_eqb, eqb-true}
 use Rattle.std.proofs.Math.Dec.{eqb}
 use Rattle.bits.specs.Bits.{bits_at}
 use Rattle.bits.specs.BitLaws.{same_bits}
-use Rattle.options.specs.declared.Options.{Options}
 use Rattle.footprint.specs.declared.Footprint.{Footprint}
-use Rattle.params_low.specs.Low.{is_void, conf_len, low_of, extent_in}
+use Rattle.params_low.specs.Low.{is_void, conf_len, low_of}
 use Rattle.params_low.specs.LowLaws.{SameBits, void-low, low_same}
-use Rattle.params_extent.specs.Extent.{void_verdict}
-use Rattle.params_extent.specs.ExtentLaws.{void-some}
 use Rattle.params_config.specs.Config.{is_reserved, parts_of, partitions_of, config_of}
 use Rattle.params_config.specs.declared.Config.{Config}
 use Rattle.params_rules.specs.Rules.{verdict}
@@ -24,36 +21,36 @@ use Rattle.params_map.specs.Map.{legal_map, no_map, map_in, map_of}
 use Rattle.params_map.specs.declared.BlockMap.{BlockMap}
 
 -- ---- by the answer
-module _ (o : Options) (t : Fields) (f : Footprint) where
-  pub map-answer : (map_in o t f).answer ≡ answer o t f
+module _ (t : Fields) (f : Footprint) where
+  pub map-answer : (map_in t f).answer ≡ answer t f
   unfolding map_in legal_map no_map
-  map-answer = go (answer o t f) (eqb (answer o t f) 0) refl
+  map-answer = go (answer t f) (eqb (answer t f) 0) refl
     where
       go : (a : ℕ) (b : Bool) → eqb a 0 ≡ b → (cond b (legal_map (config_of t.low)) (no_map a)).answer ≡ a
       go a true e = sym (eqb-true _ _ e)
       go a false e = refl
 
-  pub map-legal : answer o t f ≡ 0 → map_in o t f ≡ legal_map (config_of t.low)
+  pub map-legal : answer t f ≡ 0 → map_in t f ≡ legal_map (config_of t.low)
   unfolding map_in
   map-legal e = rw e
 
-  pub map-none : (a : ℕ) → answer o t f ≡ a → (a ≡ 0 → ⊥) → map_in o t f ≡ no_map a
+  pub map-none : (a : ℕ) → answer t f ≡ a → (a ≡ 0 → ⊥) → map_in t f ≡ no_map a
   unfolding map_in
   map-none a e z = rw (e, ne_eqb a 0 z)
 
 -- ---- the ways out of the code, by its flags and its parts' results
-pub out-void : (o : Options) (v : ℕ) (f : Footprint) (a : ℕ) (r : BlockMap) (w : Bool) → w ≡ is_void v → w ≡ true → a ≡ void_verdict o.reading (extent_in v) → r ≡ no_map a → r ≡ map_of o v f
-out-void o v f a r w i j e g = g ∙ sym (map-none o (fields_of v) f a (told-void o v f w i j a e) (λ z. void-some _ o.reading (sym e ∙ z)))
+pub out-void : (v : ℕ) (f : Footprint) (r : BlockMap) (w : Bool) → w ≡ is_void v → w ≡ true → r ≡ no_map 1 → r ≡ map_of v f
+out-void v f r w i j g = g ∙ sym (map-none (fields_of v) f 1 (told-void v f w i j) (λ h. omega arith))
 
-pub out-reserved : (o : Options) (v : ℕ) (f : Footprint) (c : ℕ) (r : BlockMap) (w s : Bool) → c ≡ low_of v → w ≡ is_void v → w ≡ false → s ≡ is_reserved c → s ≡ true → r ≡ no_map 10 → r ≡ map_of o v f
-out-reserved o v f c r w s q i j m n g = g ∙ sym (map-none o (fields_of v) f 10 (told-reserved o v f w i j c q s m n) (λ h. omega arith))
+pub out-reserved : (v : ℕ) (f : Footprint) (c : ℕ) (r : BlockMap) (w s : Bool) → c ≡ low_of v → w ≡ is_void v → w ≡ false → s ≡ is_reserved c → s ≡ true → r ≡ no_map 10 → r ≡ map_of v f
+out-reserved v f c r w s q i j m n g = g ∙ sym (map-none (fields_of v) f 10 (told-reserved v f w i j c q s m n) (λ h. omega arith))
 
-pub out-rule : (o : Options) (v : ℕ) (f : Footprint) (c a : ℕ) (k : Config) (r : BlockMap) (w s : Bool) → c ≡ low_of v → w ≡ is_void v → w ≡ false → s ≡ is_reserved c → s ≡ false → k ≡ config_of c → a ≡ verdict k f → (a ≡ 0 → ⊥) → r ≡ no_map a → r ≡ map_of o v f
-out-rule o v f c a k r w s q i j m n l p z g = g ∙ sym (map-none o (fields_of v) f a (told-rule o v f w i j c q s m n k l a p) z)
+pub out-rule : (v : ℕ) (f : Footprint) (c a : ℕ) (k : Config) (r : BlockMap) (w s : Bool) → c ≡ low_of v → w ≡ is_void v → w ≡ false → s ≡ is_reserved c → s ≡ false → k ≡ config_of c → a ≡ verdict k f → (a ≡ 0 → ⊥) → r ≡ no_map a → r ≡ map_of v f
+out-rule v f c a k r w s q i j m n o p z g = g ∙ sym (map-none (fields_of v) f a (told-rule v f w i j c q s m n k o a p) z)
 
-pub out-legal : (o : Options) (v : ℕ) (f : Footprint) (c a : ℕ) (k : Config) (r : BlockMap) (w s : Bool) → c ≡ low_of v → w ≡ is_void v → w ≡ false → s ≡ is_reserved c → s ≡ false → k ≡ config_of c → a ≡ verdict k f → a ≡ 0 → r ≡ legal_map k → r ≡ map_of o v f
-out-legal o v f c a k r w s q i j m n l p z g =
-    g ∙ ap legal_map (l ∙ ap config_of (q ∙ sym (low-is v))) ∙ sym (map-legal o (fields_of v) f (told-rule o v f w i j c q s m n k l a p ∙ z))
+pub out-legal : (v : ℕ) (f : Footprint) (c a : ℕ) (k : Config) (r : BlockMap) (w s : Bool) → c ≡ low_of v → w ≡ is_void v → w ≡ false → s ≡ is_reserved c → s ≡ false → k ≡ config_of c → a ≡ verdict k f → a ≡ 0 → r ≡ legal_map k → r ≡ map_of v f
+out-legal v f c a k r w s q i j m n o p z g =
+    g ∙ ap legal_map (o ∙ ap config_of (q ∙ sym (low-is v))) ∙ sym (map-legal (fields_of v) f (told-rule v f w i j c q s m n k o a p ∙ z))
 
 -- ---- the fields of a legal block stand one after the other, within its 128 bits
 pub record InOrder (m : BlockMap) : Type 0 where
@@ -63,13 +60,13 @@ pub record InOrder (m : BlockMap) : Type 0 where
   pub weights : m.extra_at + m.extra_len ≡ m.weight_at
   pub last : m.weight_at + m.weight_len ≡ 128
 
-pub in_order : (o : Options) (v : ℕ) (f : Footprint) → (map_of o v f).answer ≡ 0 → InOrder (map_of o v f)
+pub in_order : (v : ℕ) (f : Footprint) → (map_of v f).answer ≡ 0 → InOrder (map_of v f)
 unfolding legal_map
-in_order o v f e =
-    let a : answer o (fields_of v) f ≡ 0 = sym (map-answer o (fields_of v) f) ∙ e in
-    let l = (ordinary o (fields_of v) f a).rules in
+in_order v f e =
+    let a : answer (fields_of v) f ≡ 0 = sym (map-answer (fields_of v) f) ∙ e in
+    let l = (ordinary (fields_of v) f a).rules in
     let w = range-is _ f l in
-    rw (map-legal o (fields_of v) f a)
+    rw (map-legal (fields_of v) f a)
     (record { first = refl; ends = omega arith; extra = omega (arith, w.fits); weights = omega (arith, w.fits); last = omega (arith, l.most) })
 
 abbrev pub InField : ℕ → ℕ → ℕ → Type 0
@@ -89,10 +86,10 @@ pub record Disjoint (m : BlockMap) (k : ℕ) : Type 0 where
   pub extra-weights : InField m.extra_at m.extra_len k → InField m.weight_at m.weight_len k → ⊥
   pub within : Mapped m k → k < 128
 
-pub disjoint : (o : Options) (v : ℕ) (f : Footprint) (k : ℕ) → (map_of o v f).answer ≡ 0 → Disjoint (map_of o v f) k
-disjoint o v f k e =
-    let m = map_of o v f in
-    let t : InOrder m = in_order o v f e in
+pub disjoint : (v : ℕ) (f : Footprint) (k : ℕ) → (map_of v f).answer ≡ 0 → Disjoint (map_of v f) k
+disjoint v f k e =
+    let m = map_of v f in
+    let t : InOrder m = in_order v f e in
     record {
       low-ends = λ a b. omega arith;
       low-extra = λ a b. omega arith;
@@ -137,19 +134,19 @@ pub record SameBlock (v w : ℕ) (m : BlockMap) : Type 0 where
   pub ends : bits_at v m.end_at m.end_len ≡ bits_at w m.end_at m.end_len
   pub weights : bits_at v m.weight_at m.weight_len ≡ bits_at w m.weight_at m.weight_len
 
-pub unmapped : (o : Options) (v w : ℕ) (f : Footprint) → (map_of o v f).answer ≡ 0 → ((k : ℕ) → Mapped (map_of o v f) k → bits_at v k 1 ≡ bits_at w k 1) → SameBlock v w (map_of o v f)
-unmapped o v w f e h =
-    let m = map_of o v f in
-    let a : answer o (fields_of v) f ≡ 0 = sym (map-answer o (fields_of v) f) ∙ e in
+pub unmapped : (v w : ℕ) (f : Footprint) → (map_of v f).answer ≡ 0 → ((k : ℕ) → Mapped (map_of v f) k → bits_at v k 1 ≡ bits_at w k 1) → SameBlock v w (map_of v f)
+unmapped v w f e h =
+    let m = map_of v f in
+    let a : answer (fields_of v) f ≡ 0 = sym (map-answer (fields_of v) f) ∙ e in
     let s : SameMapped m v w = record {
       low = λ k a b. h k (inl (a, b));
       ends = λ k a b. h k (inr (inl (a, b)));
       extra = λ k a b. h k (inr (inr (inl (a, b))));
       weights = λ k a b. h k (inr (inr (inr (a, b))));
     } in
-    let n : is_void v ≡ false = sym (void-low v) ∙ ap is_void (sym (low-is v)) ∙ (ordinary o (fields_of v) f a).void in
+    let n : is_void v ≡ false = sym (void-low v) ∙ ap is_void (sym (low-is v)) ∙ (ordinary (fields_of v) f a).void in
     record {
-      fields = local v w n (rw (map-legal o (fields_of v) f a, low-is v) at s);
+      fields = local v w n (rw (map-legal (fields_of v) f a, low-is v) at s);
       ends = same_bits v w m.end_at m.end_len s.ends;
       weights = same_bits v w m.weight_at m.weight_len s.weights;
     }

@@ -9,7 +9,6 @@ ghost use Rattle.params_map.specs.Map.{legal_map, no_map, map_of};
 
 use bits::Block;
 use footprint::Footprint;
-use options::Options;
 use params_config::Config;
 
 // The answer of a block and, where it is legal, start and length of each of its fields and the
@@ -95,13 +94,12 @@ pub fn no_map(answer: usize) -> BlockMap
     }
 }
 
-// The map of the block b at the footprint f, by the options o.
-pub fn decode_block_map(o: Options, b: Block, f: Footprint) -> BlockMap
-    ensures { result ≡ map_of o (value_of b) f }
+// The map of the block b at the footprint f.
+pub fn decode_block_map(b: Block, f: Footprint) -> BlockMap
+    ensures { result ≡ map_of (value_of b) f }
 {
     if params_low::is_void(b) {
-        let reading = o.reading;
-        return no_map(params_extent::void_verdict(reading, b));
+        return no_map(answers::VOID_EXTENT);
     }
     let c = params_low::low_config(b);
     if params_config::is_reserved(c) {

@@ -1,14 +1,11 @@
 -- What an answer says of a block, and that a block is judged by its fields alone.
 -- Assumes nothing.
-use Rattle.std.specs.Prelude.{◌≡◌, refl, Bool, true, false, cond, ℕ, ◌<◌}
+use Rattle.std.specs.Prelude.{◌≡◌, refl, Bool, true, false, ℕ, ◌<◌}
 use Rattle.std.proofs.Common.{sym, ap, ◌∙◌, arith}
 use Rattle.laws.specs.Numbers.{choice}
-use Rattle.options.specs.declared.Options.{Options}
 use Rattle.footprint.specs.declared.Footprint.{Footprint}
-use Rattle.params_low.specs.Low.{is_void, low_of, extent_in}
-use Rattle.params_low.specs.LowLaws.{void-low, extent-none, extent-is}
-use Rattle.params_extent.specs.Extent.{void_verdict}
-use Rattle.params_extent.specs.ExtentLaws.{void-some, void-lt}
+use Rattle.params_low.specs.Low.{is_void, low_of}
+use Rattle.params_low.specs.LowLaws.{void-low, extent-none}
 use Rattle.params_config.specs.Config.{is_reserved, config_of}
 use Rattle.params_config.specs.declared.Config.{Config}
 use Rattle.params_rules.specs.Rules.{verdict}
@@ -21,21 +18,17 @@ pub record Ordinary (t : Fields) (f : Footprint) : Type 0 where
   pub free : is_reserved t.low ≡ false
   pub rules : Legal (config_of t.low) f
 
-not-void : (b : Bool) (x r : ℕ) → (x ≡ 0 → ⊥) → cond b x r ≡ 0 → (b ≡ false) × (r ≡ 0)
-not-void true x r n e = absurd (n e)
-not-void false x r n e = (refl, e)
-
-pub ordinary : (o : Options) (t : Fields) (f : Footprint) → answer o t f ≡ 0 → Ordinary t f
+pub ordinary : (t : Fields) (f : Footprint) → answer t f ≡ 0 → Ordinary t f
 unfolding answer
-ordinary o t f e =
-    let s1 = not-void (is_void t.low) _ _ (void-some t.extent o.reading) e in
+ordinary t f e =
+    let s1 = passed _ 0 _ e in
     let s2 = passed _ 9 _ s1.1 in
     record { void = s1.0; free = s2.0; rules = verdict-legal _ _ s2.1 }
 
 -- every answer is below those of a call that is refused
-pub answer_lt : (o : Options) (t : Fields) (f : Footprint) → answer o t f < 20
+pub answer_lt : (t : Fields) (f : Footprint) → answer t f < 20
 unfolding answer
-answer_lt o t f = choice (is_void t.low) _ _ (void-lt t.extent o.reading) (choice (is_reserved t.low) 10 _ (omega arith) (verdict-lt (config_of t.low) f))
+answer_lt t f = choice (is_void t.low) 1 _ (omega arith) (choice (is_reserved t.low) 10 _ (omega arith) (verdict-lt (config_of t.low) f))
 
 -- ---- the fields of the block v
 pub low-is : (v : ℕ) → (fields_of v).low ≡ low_of v
@@ -53,25 +46,25 @@ fields-same v w h l x =
     let h' : is_void w ≡ false = sym (void-low w) ∙ ap is_void (sym l) ∙ void-low v ∙ h in
     rw (extent-none v h, extent-none w h', x, l)
 
--- ---- a void block is judged by its extent, and no other answers 1
-pub answer-void : (o : Options) (v : ℕ) (f : Footprint) → is_void v ≡ true → answer o (fields_of v) f ≡ void_verdict o.reading (extent_in v)
+-- ---- a void block answers 1, and no other does
+pub answer-void : (v : ℕ) (f : Footprint) → is_void v ≡ true → answer (fields_of v) f ≡ 1
 unfolding answer fields_of
-answer-void o v f h = rw (void-low v, extent-is v h, h)
+answer-void v f h = rw (void-low v, h)
 
-pub void-alone : (o : Options) (v : ℕ) (f : Footprint) → is_void v ≡ false → answer o (fields_of v) f ≡ 1 → ⊥
+pub void-alone : (v : ℕ) (f : Footprint) → is_void v ≡ false → answer (fields_of v) f ≡ 1 → ⊥
 unfolding answer fields_of
-void-alone o v f h e = neither (is_reserved (low_of v)) 10 _ (λ z. omega arith) (not-1 (config_of (low_of v)) f) (rw (void-low v, h) at e)
+void-alone v f h e = neither (is_reserved (low_of v)) 10 _ (λ z. omega arith) (not-1 (config_of (low_of v)) f) (rw (void-low v, h) at e)
 
 -- ---- the answer as a decoder finds it that makes the checks one after the other: w and s are its flags
-module _ (o : Options) (v : ℕ) (f : Footprint) (w : Bool) (i : w ≡ is_void v) where
-  pub told-void : w ≡ true → (a : ℕ) → a ≡ void_verdict o.reading (extent_in v) → answer o (fields_of v) f ≡ a
-  told-void j a e = answer-void o v f (sym i ∙ j) ∙ sym e
+module _ (v : ℕ) (f : Footprint) (w : Bool) (i : w ≡ is_void v) where
+  pub told-void : w ≡ true → answer (fields_of v) f ≡ 1
+  told-void j = answer-void v f (sym i ∙ j)
 
   module _ (j : w ≡ false) (c : ℕ) (q : c ≡ low_of v) (s : Bool) (m : s ≡ is_reserved c) where
-    pub told-reserved : s ≡ true → answer o (fields_of v) f ≡ 10
+    pub told-reserved : s ≡ true → answer (fields_of v) f ≡ 10
     unfolding answer fields_of
     told-reserved n = rw (void-low v, ← i, j, ← q, ← m, n)
 
-    pub told-rule : s ≡ false → (k : Config) → k ≡ config_of c → (a : ℕ) → a ≡ verdict k f → answer o (fields_of v) f ≡ a
+    pub told-rule : s ≡ false → (k : Config) → k ≡ config_of c → (a : ℕ) → a ≡ verdict k f → answer (fields_of v) f ≡ a
     unfolding answer fields_of
-    told-rule n k l a p = rw (void-low v, ← i, j, ← q, ← m, n, ← l, p)
+    told-rule n k o a p = rw (void-low v, ← i, j, ← q, ← m, n, ← o, p)

@@ -3,11 +3,9 @@
 -- Assumes nothing.
 use Rattle.std.specs.Prelude.{cond, ℕ}
 use Rattle.bits.specs.Bits.{bits_at}
-use Rattle.answers.specs.Answers.{reserved_mode}
-use Rattle.options.specs.declared.Options.{Options}
+use Rattle.answers.specs.Answers.{void_extent, reserved_mode}
 use Rattle.footprint.specs.declared.Footprint.{Footprint}
 use Rattle.params_low.specs.Low.{is_void, low_of, extent_of}
-use Rattle.params_extent.specs.Extent.{void_verdict}
 use Rattle.params_config.specs.Config.{is_reserved, config_of}
 use Rattle.params_config.specs.declared.Config.{Config}
 use Rattle.params_rules.specs.Rules.{extra_len, extra_at, verdict}
@@ -25,9 +23,9 @@ extra_in k v = bits_at v (extra_at k) (extra_len k)
 unfoldable pub fields_of : ℕ → Fields
 fields_of v = record { low = low_of v; extent = extent_of v; extra = extra_in (config_of (low_of v)) v }
 
--- the answer of a block with the fields t at the footprint f, by the options o
-unfoldable pub answer : Options → Fields → Footprint → ℕ
-answer o t f =
-    cond (is_void t.low) (void_verdict o.reading t.extent)
+-- the answer of a block with the fields t at the footprint f
+unfoldable pub answer : Fields → Footprint → ℕ
+answer t f =
+    cond (is_void t.low) void_extent
     (cond (is_reserved t.low) reserved_mode
     (verdict (config_of t.low) f))

@@ -7,9 +7,7 @@ use Rattle.footprint.specs.declared.Footprint.{Footprint}
 use Rattle.sequence_ranges.specs.Ranges.{ranges, range_of}
 use Rattle.sequence_ranges.specs.Ranges.{total_of}
 use Rattle.params_config.specs.Ranges.{cost}
-use Rattle.options.specs.Base.{base}
 use Rattle.params_low.specs.Low.{is_void, conf_len, low_of, extent_of}
-use Rattle.params_extent.specs.Extent.{void_verdict}
 use Rattle.params_modes.specs.Modes.{class_in, values_to}
 use Rattle.params_config.specs.Config.{is_reserved, lacks_dh, grid_low, grid_high, grid_of, weight_r, weight_h, weight_d, parts_of, number_of, mode_base, low_modes, extra_mode_bits, partitions_of, config_of}
 use Rattle.params_rules.specs.Rules.{end_verdict, verdict}
@@ -28,9 +26,9 @@ p3 = 0xfc ∷ 0xfd ∷ 0xff ∷ 0xff ∷ 0xff ∷ 0xff ∷ 0xff ∷ 0xff ∷ 0 �
 pub zeros : List ℕ
 zeros = []
 
--- the answer of the block with the number v, by no options
+-- the answer of the block with the number v
 pub ans : ℕ → Footprint → ℕ
-ans v f = answer base (fields_of v) f
+ans v f = answer (fields_of v) f
 
 pub record Values : Type 0 where
   pub P1 : ans (bytes 16 p1) (footprint 4 4) ≡ 0
@@ -59,5 +57,5 @@ pub record Values : Type 0 where
   pub values-32 : ans 0x1e001851 (footprint 6 6) ≡ 15
 
 pub values : Values
-unfolding bits_at bytes ranges range_of total_of cost is_void is_reserved lacks_dh grid_low grid_high grid_of weight_r weight_h weight_d parts_of number_of mode_base low_modes class_in values_to conf_len low_of extent_of extra_mode_bits partitions_of config_of end_verdict verdict void_verdict fields_of answer p1 p3 zeros ans
+unfolding bits_at bytes ranges range_of total_of cost is_void is_reserved lacks_dh grid_low grid_high grid_of weight_r weight_h weight_d parts_of number_of mode_base low_modes class_in values_to conf_len low_of extent_of extra_mode_bits partitions_of config_of end_verdict verdict fields_of answer p1 p3 zeros ans
 values = record { P1 = refl; P3 = refl; P4 = refl; weights-24 = refl; weights-20 = refl; weights-96 = refl; weights-103 = refl; values-18 = refl; grid-8x8 = refl; grid-9x8 = refl; dual-12x5 = refl; one-bit-4x6 = refl; one-bit-4x5 = refl; two-bit-6x8 = refl; trits-8x8 = refl; room-47 = refl; room-46 = refl; room-negative = refl; dual-four = refl; values-32 = refl }

@@ -5,7 +5,6 @@ ghost use Rattle.endpoints.specs.Endpoints.{count_to};
 use crate::{frame, sequences};
 use bits::Block;
 use endpoints_colours::{Endpoints, Mark};
-use options::Reading;
 
 fn mark_number(m: Mark) -> usize {
     match m {
@@ -62,7 +61,7 @@ fn put_partitions(out: &mut [u8; 288], parts: usize, modes: [u8; 4], q: usize, n
     let seq = sequences::values_of(b, q, n, offset_of(parts), false);
     let mut ev = [0u8; 32];
     endpoints_unquantise::unquantize(&mut ev, n, q, &seq);
-    let e = endpoints::decode_endpoints(Reading::Crate, parts, modes, &ev);
+    let e = endpoints::decode_endpoints(parts, modes, &ev);
     put_endpoints(out, 0, e[0]);
     put_endpoints(out, 18, e[1]);
     put_endpoints(out, 36, e[2]);

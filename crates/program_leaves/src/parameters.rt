@@ -1,6 +1,5 @@
 // Answers on the parameters of a block.
 use crate::frame;
-use options::{Options, Reading};
 use params::Params;
 use params_config::Config;
 use params_map::BlockMap;
@@ -54,9 +53,6 @@ pub(crate) fn reply_params(out: &mut [u8; 288], ask: &[u8; 32]) {
         frame::put(out, 0, answers::VOID_EXTENT);
         return;
     }
-    let o = Options {
-        reading: Reading::Crate,
-    };
-    put_params(out, params::decode_block_params(o, b, f));
-    put_map(out, params_map::decode_block_map(o, b, f));
+    put_params(out, params::decode_block_params(b, f));
+    put_map(out, params_map::decode_block_map(b, f));
 }

@@ -1,4 +1,4 @@
--- Demand 3 of docs/SCOPE.md, proved for all options at once.
+-- Demand 3 of docs/SCOPE.md, proved.
 -- Assumes nothing.
 use Rattle.std.specs.Prelude.{◌≡◌, refl, ltb, get_or, length}
 use Rattle.std.proofs.Common.{sym, ◌∙◌, ⊎_elim}
@@ -10,7 +10,6 @@ use native.Mathlib.Omega.{arith}
 use borrow.Author.Tests.{eq-eqb, lt-ltb, le-ltb}
 use Rattle.laws.specs.Lists.{put_same}
 use Rattle.bits.specs.Bits.{bits_at, bytes}
-use Rattle.options.specs.declared.Options.{Options}
 use Rattle.params_low.specs.Low.{conf_len}
 use Rattle.params_config.specs.Config.{partitions_of, config_of}
 use Rattle.params_rules.specs.Fields.{fields_of, answer}
@@ -36,13 +35,13 @@ use Rattle.footprint.specs.declared.Footprint.{Footprint}
 use Rattle.block_ordinary.specs.Ordinary.{ordinary_word, ordinary_sample}
 use Rattle.block_ordinary.specs.Facts.{Facts, ready}
 use Rattle.block_ordinary.specs.Parts.{ends-within, weights-light}
-use Rattle.block_map.specs.Answer.{answer_with, map_answer, block_map_with}
+use Rattle.block_map.specs.Answer.{answer_of, map_answer, block_map}
 use Rattle.block_map.specs.AnswerLaws.{LegalMap, legal-map}
 use Rattle.channels.specs.Channels.{marks_of}
 use Rattle.texels_numbers.specs.Numbers.{four_of}
 use Rattle.texels_numbers.specs.NumberLaws.{fours-same}
-use Rattle.block_channels.specs.BlockChannels.{block_samples, room_of, numbers_with, marks_with}
-use Rattle.block.specs.Block.{word_of_params, block_word, word_at, painted_with}
+use Rattle.block_channels.specs.BlockChannels.{block_samples, room_of, numbers_of, marks_in}
+use Rattle.block.specs.Block.{word_of_params, block_word, word_at, painted_of}
 use Rattle.theorems.specs.Demands.{In, Stated, WidestRange, channel_in, infilled, ends_at, InBounds}
 
 -- ---- the fields stand one after the other
@@ -72,13 +71,13 @@ module _ (m : BlockMap) (f : InOrder m) where
   field-within (suc (suc (suc (suc i)))) k h = omega (arith, h.1)
 
 -- ---- the range
-range-fits : (o : Options) (v : ℕ) (foot : Footprint) → (params_of o v foot).answer ≡ 0 → WidestRange (map_of o v foot) (params_of o v foot).config.values (params_of o v foot).endpoint_range
+range-fits : (v : ℕ) (foot : Footprint) → (params_of v foot).answer ≡ 0 → WidestRange (map_of v foot) (params_of v foot).config.values (params_of v foot).endpoint_range
 unfolding legal legal_map
-range-fits o v foot e =
+range-fits v foot e =
     let t = fields_of v in
-    let a : answer o t foot ≡ 0 = sym (answer-is o t foot) ∙ e in
-    let w = range-is _ foot (ordinary o t foot a).rules in
-    rw (map-legal o t foot a, legal-is o t foot a)
+    let a : answer t foot ≡ 0 = sym (answer-is t foot) ∙ e in
+    let w = range-is _ foot (ordinary t foot a).rules in
+    rw (map-legal t foot a, legal-is t foot a)
     (record {
       least = w.least;
       most = w.most;
@@ -91,22 +90,22 @@ range-fits o v foot e =
 -- ---- starts and lengths
 config-stated : (c : ℕ) (m : BlockMap) → m ≡ legal_map (config_of c) → InOrder m → Stated m (config_of c)
 unfolding legal_map config_of partitions_of conf_len
-config-stated c m e r = record {
-  low-start = r.first;
+config-stated c m e o = record {
+  low-start = o.first;
   low-length = rw e;
   ends-start = rw e;
   extra-length = rw e;
-  extra-end = r.weights;
+  extra-end = o.weights;
   weights-length = rw e;
-  weights-end = r.last;
+  weights-end = o.last;
 }
 
-stated-is : (o : Options) (v : ℕ) (foot : Footprint) → (params_of o v foot).answer ≡ 0 → InOrder (map_of o v foot) → Stated (map_of o v foot) (params_of o v foot).config
+stated-is : (v : ℕ) (foot : Footprint) → (params_of v foot).answer ≡ 0 → InOrder (map_of v foot) → Stated (map_of v foot) (params_of v foot).config
 unfolding legal
-stated-is o v foot e r =
+stated-is v foot e o =
     let t = fields_of v in
-    let a : answer o t foot ≡ 0 = sym (answer-is o t foot) ∙ e in
-    rw (legal-is o t foot a) (config-stated t.low (map_of o v foot) (map-legal o t foot a) r)
+    let a : answer t foot ≡ 0 = sym (answer-is t foot) ∙ e in
+    rw (legal-is t foot a) (config-stated t.low (map_of v foot) (map-legal t foot a) o)
 
 -- ---- LDR channels
 ldr-channel : (m : Mark) (e0 e1 w : ℕ) → m ≡ Ldr → e0 < limit m → e1 < limit m → w ≤ 64 → Between e0 e1 (channel_by m e0 e1 w)
@@ -148,99 +147,99 @@ legal-word : (p : Params) (v : ℕ) (foot : Footprint) (t : ℕ) → p.answer �
 unfolding word_of_params
 legal-word p v foot t z = rw (eq-eqb p.answer 0 z)
 
-block-word : (o : Options) (v : ℕ) (foot : Footprint) (t : ℕ) → (params_of o v foot).answer ≡ 0 → block_word o v foot t ≡ ordinary_word (params_of o v foot) v foot t
+block-word : (v : ℕ) (foot : Footprint) (t : ℕ) → (params_of v foot).answer ≡ 0 → block_word v foot t ≡ ordinary_word (params_of v foot) v foot t
 unfolding block_word
-block-word o v foot t z = legal-word (params_of o v foot) v foot t z
+block-word v foot t z = legal-word (params_of v foot) v foot t z
 
-channels-within : (o : Options) (s : List ℕ) (foot : Footprint) → (params_of o (bytes 16 s) foot).answer ≡ 0 → Facts (params_of o (bytes 16 s) foot) → (t c : ℕ) → c < 4 → mark_of (ends_at o s foot t) c ≡ Ldr
-    → Between (first_of (ends_at o s foot t) c) (second_of (ends_at o s foot t) c) (channel_in (word_at o s foot t) c)
+channels-within : (s : List ℕ) (foot : Footprint) → (params_of (bytes 16 s) foot).answer ≡ 0 → Facts (params_of (bytes 16 s) foot) → (t c : ℕ) → c < 4 → mark_of (ends_at s foot t) c ≡ Ldr
+    → Between (first_of (ends_at s foot t) c) (second_of (ends_at s foot t) c) (channel_in (word_at s foot t) c)
 unfolding word_at ordinary_word
-channels-within o s foot z f t c h m =
-    let p = params_of o (bytes 16 s) foot in
-    let w : (i : ℕ) → get_or (infilled o s foot) i 0 ≤ 64 = weights-light p foot f (weights_field p (bytes 16 s)) in
-    rw (block-word o (bytes 16 s) foot t z, texel-is p.config.planes p.channel _ _ _ t)
-    (between_ends (ends_at o s foot t) _ _ _ _ (ends-within p foot f (ends_field p (bytes 16 s)) _) (w _) (w _) (w _) (w _) c h m)
+channels-within s foot z f t c h m =
+    let p = params_of (bytes 16 s) foot in
+    let w : (i : ℕ) → get_or (infilled s foot) i 0 ≤ 64 = weights-light p foot f (weights_field p (bytes 16 s)) in
+    rw (block-word (bytes 16 s) foot t z, texel-is p.config.planes p.channel _ _ _ t)
+    (between_ends (ends_at s foot t) _ _ _ _ (ends-within p foot f (ends_field p (bytes 16 s)) _) (w _) (w _) (w _) (w _) c h m)
 
 -- ---- locality
 ordinary-same : (p : Params) (v w : ℕ) (foot : Footprint) (t : ℕ) → ends_field p v ≡ ends_field p w → weights_field p v ≡ weights_field p w → ordinary_word p v foot t ≡ ordinary_word p w foot t
 unfolding ordinary_word
 ordinary-same p v w foot t e f = rw (e, f)
 
-word_same : (o : Options) (v w : ℕ) (foot : Footprint) (t : ℕ) → (params_of o v foot).answer ≡ 0 → SameParams o v w foot → block_word o v foot t ≡ block_word o w foot t
-word_same o v w foot t z b =
-    let p = params_of o v foot in
-    let y : (params_of o w foot).answer ≡ 0 = rw b.params at z in
-    block-word o v foot t z
+word_same : (v w : ℕ) (foot : Footprint) (t : ℕ) → (params_of v foot).answer ≡ 0 → SameParams v w foot → block_word v foot t ≡ block_word w foot t
+word_same v w foot t z b =
+    let p = params_of v foot in
+    let y : (params_of w foot).answer ≡ 0 = rw b.params at z in
+    block-word v foot t z
     ∙ ordinary-same p v w foot t b.ends b.weights
     ∙ ap (λ (q : Params). ordinary_word q w foot t) b.params
-    ∙ sym (block-word o w foot t y)
+    ∙ sym (block-word w foot t y)
 
 sample-same : (p : Params) (v w : ℕ) (foot : Footprint) (t k : ℕ) → ends_field p v ≡ ends_field p w → weights_field p v ≡ weights_field p w → ordinary_sample p v foot t k ≡ ordinary_sample p w foot t k
 unfolding ordinary_sample
 sample-same p v w foot t k e f = rw (e, f)
 
-samples-same : (o : Options) (v w : ℕ) (foot : Footprint) (t : ℕ) → (params_of o v foot).answer ≡ 0 → SameParams o v w foot → block_samples o v foot t ≡ block_samples o w foot t
+samples-same : (v w : ℕ) (foot : Footprint) (t : ℕ) → (params_of v foot).answer ≡ 0 → SameParams v w foot → block_samples v foot t ≡ block_samples w foot t
 unfolding block_samples
-samples-same o v w foot t z b =
-    let p = params_of o v foot in
+samples-same v w foot t z b =
+    let p = params_of v foot in
     let same : (k : ℕ) → ordinary_sample p v foot t k ≡ ordinary_sample p w foot t k = λ k. sample-same p v w foot t k b.ends b.weights in
     rw (← b.params, eq-eqb p.answer 0 z, same 0, same 1, same 2, same 3)
 
-module _ (o : Options) (s s' : List ℕ) (foot : Footprint) (l : LegalMap o s foot) (h : length s' ≡ 16) (b : SameParams o (bytes 16 s) (bytes 16 s') foot) where
-  answer-same : (room : ℕ) → answer_with o s foot room ≡ answer_with o s' foot room
-  unfolding answer_with
+module _ (s s' : List ℕ) (foot : Footprint) (l : LegalMap s foot) (h : length s' ≡ 16) (b : SameParams (bytes 16 s) (bytes 16 s') foot) where
+  answer-same : (room : ℕ) → answer_of s foot room ≡ answer_of s' foot room
+  unfolding answer_of
   answer-same room = rw (l.sixteen, h, b.fields)
 
-  map_same : block_map_with o s foot ≡ block_map_with o s' foot
-  unfolding map_answer block_map_with
+  map_same : block_map s foot ≡ block_map s' foot
+  unfolding map_answer block_map
   map_same = rw (answer-same (texels_of foot), b.fields)
 
-  legal-answer : (params_of o (bytes 16 s) foot).answer ≡ 0
-  legal-answer = answer-is o (fields_of (bytes 16 s)) foot ∙ l.answer
+  legal-answer : (params_of (bytes 16 s) foot).answer ≡ 0
+  legal-answer = answer-is (fields_of (bytes 16 s)) foot ∙ l.answer
 
-  painted_same : (out : List ℕ) → painted_with o s foot out ≡ painted_with o s' foot out
-  unfolding painted_with word_at
+  painted_same : (out : List ℕ) → painted_of s foot out ≡ painted_of s' foot out
+  unfolding painted_of word_at
   painted_same out =
       rw (answer-same (length out))
-      (ap (λ (x : List ℕ). cond (ltb (answer_with o s' foot (length out)) 20) x out)
-      (put_same _ _ 0 (texels_of foot) out (λ k x y. word_same o (bytes 16 s) (bytes 16 s') foot k legal-answer b)))
+      (ap (λ (x : List ℕ). cond (ltb (answer_of s' foot (length out)) 20) x out)
+      (put_same _ _ 0 (texels_of foot) out (λ k x y. word_same (bytes 16 s) (bytes 16 s') foot k legal-answer b)))
 
-  numbers-same : (marks : ℕ) (out : List ℕ) → numbers_with o s foot marks out ≡ numbers_with o s' foot marks out
-  unfolding numbers_with
+  numbers-same : (marks : ℕ) (out : List ℕ) → numbers_of s foot marks out ≡ numbers_of s' foot marks out
+  unfolding numbers_of
   numbers-same marks out =
       rw (answer-same (room_of (length out) marks))
-      (ap (λ (x : List ℕ). cond (ltb (answer_with o s' foot (room_of (length out) marks)) 20) x out)
-      (fours-same _ _ (texels_of foot) out (λ t x. ap four_of (samples-same o (bytes 16 s) (bytes 16 s') foot t legal-answer b))))
+      (ap (λ (x : List ℕ). cond (ltb (answer_of s' foot (room_of (length out) marks)) 20) x out)
+      (fours-same _ _ (texels_of foot) out (λ t x. ap four_of (samples-same (bytes 16 s) (bytes 16 s') foot t legal-answer b))))
 
-  marks-same : (places : ℕ) (floats : List ℕ) → marks_with o s foot places floats ≡ marks_with o s' foot places floats
-  unfolding marks_with
+  marks-same : (places : ℕ) (floats : List ℕ) → marks_in s foot places floats ≡ marks_in s' foot places floats
+  unfolding marks_in
   marks-same places floats =
       rw (answer-same (room_of places (length floats)))
-      (ap (λ (x : List ℕ). cond (ltb (answer_with o s' foot (room_of places (length floats))) 20) x floats)
-      (put_same _ _ 0 (texels_of foot) floats (λ t x y. ap marks_of (samples-same o (bytes 16 s) (bytes 16 s') foot t legal-answer b))))
+      (ap (λ (x : List ℕ). cond (ltb (answer_of s' foot (room_of places (length floats))) 20) x floats)
+      (put_same _ _ 0 (texels_of foot) floats (λ t x y. ap marks_of (samples-same (bytes 16 s) (bytes 16 s') foot t legal-answer b))))
 
 -- the bits that a map names are those of its fields
 mapped-bits : (m : BlockMap) (v w : ℕ) → ((i k : ℕ) → In m i k → bits_at v k 1 ≡ bits_at w k 1) → (k : ℕ) → Mapped m k → bits_at v k 1 ≡ bits_at w k 1
 mapped-bits m v w h k = ⊎_elim (λ a. h 0 k a) (⊎_elim (λ a. h 1 k a) (⊎_elim (λ a. h 2 k a) (λ a. h 3 k a)))
 
 -- ---- the theorem
-pub demand-3 : (o : Options) (s : List ℕ) (foot : Footprint) → (block_map_with o s foot).answer ≡ 0 → InBounds o s foot
-demand-3 o s foot z =
-    let l = legal-map o s foot z in
+pub demand-3 : (s : List ℕ) (foot : Footprint) → (block_map s foot).answer ≡ 0 → InBounds s foot
+demand-3 s foot z =
+    let l = legal-map s foot z in
     let v = bytes 16 s in
-    let p = params_of o v foot in
-    let m = map_of o v foot in
-    let a : p.answer ≡ 0 = answer-is o (fields_of v) foot ∙ l.answer in
-    let f : InOrder m = in_order o v foot (one_answer o v foot ∙ a) in
-    let k : Facts p = (ready p o v foot refl a l.listed).facts in
+    let p = params_of v foot in
+    let m = map_of v foot in
+    let a : p.answer ≡ 0 = answer-is (fields_of v) foot ∙ l.answer in
+    let f : InOrder m = in_order v foot (one_answer v foot ∙ a) in
+    let k : Facts p = (ready p v foot refl a l.listed).facts in
     record {
       within = rw l.map (field-within m f);
       disjoint = rw l.map (λ i j x a b. field_is m f i x a ∙ sym (field_is m f j x b));
-      stated = rw l.map (stated-is o v foot a f);
-      range = rw l.map (range-fits o v foot a);
+      stated = rw l.map (stated-is v foot a f);
+      range = rw l.map (range-fits v foot a);
       weights = weights-light p foot k (weights_field p v);
-      channels = channels-within o s foot a k;
+      channels = channels-within s foot a k;
       local = λ s' h same.
-          let b : SameParams o v (bytes 16 s') foot = local o v (bytes 16 s') foot a (mapped-bits m v (bytes 16 s') (rw l.map at same)) in
-          record { answer = answer-same o s s' foot l h b; map = map_same o s s' foot l h b; words = painted_same o s s' foot l h b; numbers = numbers-same o s s' foot l h b; marks = marks-same o s s' foot l h b };
+          let b : SameParams v (bytes 16 s') foot = local v (bytes 16 s') foot a (mapped-bits m v (bytes 16 s') (rw l.map at same)) in
+          record { answer = answer-same s s' foot l h b; map = map_same s s' foot l h b; words = painted_same s s' foot l h b; numbers = numbers-same s s' foot l h b; marks = marks-same s s' foot l h b };
     }

@@ -1,8 +1,7 @@
--- Demand 3 of docs/SCOPE.md: a legal block never leaves its bounds, in the terms of the map that is reported, whatever the options o. DemandLaws has the proof.
+-- Demand 3 of docs/SCOPE.md: a legal block never leaves its bounds, in the terms of the map that is reported. DemandLaws has the proof.
 -- Assumes nothing.
 use Rattle.std.specs.Prelude.{◌≡◌, cond, List, [], ◌∷◌, ℕ, ◌+◌, ◌-◌, ◌*◌, ◌≤◌, ◌<◌, eqb, get_or, length}
 use Rattle.bits.specs.Bits.{bits_at, bytes}
-use Rattle.options.specs.declared.Options.{Options}
 use Rattle.sequence_ranges.specs.Ranges.{top_of}
 use Rattle.params_config.specs.Ranges.{cost}
 use Rattle.params_config.specs.Config.{extra_mode_bits}
@@ -16,9 +15,9 @@ use Rattle.endpoints_colours.specs.declared.Endpoints.{Endpoints}
 use Rattle.blend.specs.BlendLaws.{Between}
 use Rattle.footprint.specs.declared.Footprint.{Footprint}
 use Rattle.block_ordinary.specs.Ordinary.{ends_of, weights_in, partitions_in}
-use Rattle.block_map.specs.Answer.{answer_with, block_map_with}
-use Rattle.block.specs.Block.{word_at, painted_with}
-use Rattle.block_channels.specs.BlockChannels.{numbers_with, marks_with}
+use Rattle.block_map.specs.Answer.{answer_of, block_map}
+use Rattle.block.specs.Block.{word_at, painted_of}
+use Rattle.block_channels.specs.BlockChannels.{numbers_of, marks_in}
 
 -- ---- the fields of a map: 0 is the low configuration, 1 the endpoints, 2 the extra field, 3 the weights
 abbrev pub start_of : BlockMap → ℕ → ℕ
@@ -63,37 +62,37 @@ abbrev pub channel_in : ℕ → ℕ → ℕ
 channel_in w c = bits_at w (get_or (16 ∷ 8 ∷ 0 ∷ 24 ∷ []) c 0) 8
 
 -- ---- the parts of the block s
-abbrev pub params : Options → List ℕ → Footprint → Params
-params o s foot = params_of o (bytes 16 s) foot
+abbrev pub params : List ℕ → Footprint → Params
+params s foot = params_of (bytes 16 s) foot
 
-abbrev pub infilled : Options → List ℕ → Footprint → List ℕ
-infilled o s foot = weights_in (params o s foot) foot (weights_field (params o s foot) (bytes 16 s))
+abbrev pub infilled : List ℕ → Footprint → List ℕ
+infilled s foot = weights_in (params s foot) foot (weights_field (params s foot) (bytes 16 s))
 
 -- the endpoints of the partition of texel t
-abbrev pub ends_at : Options → List ℕ → Footprint → ℕ → Endpoints
-ends_at o s foot t = get_or (ends_of (params o s foot) (ends_field (params o s foot) (bytes 16 s))) (get_or (partitions_in (params o s foot) foot) t 0) nothing
+abbrev pub ends_at : List ℕ → Footprint → ℕ → Endpoints
+ends_at s foot t = get_or (ends_of (params s foot) (ends_field (params s foot) (bytes 16 s))) (get_or (partitions_in (params s foot) foot) t 0) nothing
 
 -- ---- what two blocks share at a footprint, whatever the room and the output
-pub record SameOutcome (o : Options) (s s' : List ℕ) (foot : Footprint) : Type 0 where
-  pub answer : (room : ℕ) → answer_with o s foot room ≡ answer_with o s' foot room
-  pub map : block_map_with o s foot ≡ block_map_with o s' foot
-  pub words : (out : List ℕ) → painted_with o s foot out ≡ painted_with o s' foot out
-  pub numbers : (marks : ℕ) (out : List ℕ) → numbers_with o s foot marks out ≡ numbers_with o s' foot marks out
-  pub marks : (places : ℕ) (floats : List ℕ) → marks_with o s foot places floats ≡ marks_with o s' foot places floats
+pub record SameOutcome (s s' : List ℕ) (foot : Footprint) : Type 0 where
+  pub answer : (room : ℕ) → answer_of s foot room ≡ answer_of s' foot room
+  pub map : block_map s foot ≡ block_map s' foot
+  pub words : (out : List ℕ) → painted_of s foot out ≡ painted_of s' foot out
+  pub numbers : (marks : ℕ) (out : List ℕ) → numbers_of s foot marks out ≡ numbers_of s' foot marks out
+  pub marks : (places : ℕ) (floats : List ℕ) → marks_in s foot places floats ≡ marks_in s' foot places floats
 
 -- ---- the demand
-pub record InBounds (o : Options) (s : List ℕ) (foot : Footprint) : Type 0 where
+pub record InBounds (s : List ℕ) (foot : Footprint) : Type 0 where
   -- its fields lie within the 128 bits, and share no bit
-  pub within : (i k : ℕ) → In (block_map_with o s foot) i k → k < 128
-  pub disjoint : (i j k : ℕ) → In (block_map_with o s foot) i k → In (block_map_with o s foot) j k → i ≡ j
+  pub within : (i k : ℕ) → In (block_map s foot) i k → k < 128
+  pub disjoint : (i j k : ℕ) → In (block_map s foot) i k → In (block_map s foot) j k → i ≡ j
   -- each of them stands where it should, as long as it should be
-  pub stated : Stated (block_map_with o s foot) (params o s foot).config
+  pub stated : Stated (block_map s foot) (params s foot).config
   -- its endpoint range is the widest that fits
-  pub range : WidestRange (block_map_with o s foot) (params o s foot).config.values (params o s foot).endpoint_range
+  pub range : WidestRange (block_map s foot) (params s foot).config.values (params s foot).endpoint_range
   -- infilled weights are in 0..64
-  pub weights : (i : ℕ) → get_or (infilled o s foot) i 0 ≤ 64
+  pub weights : (i : ℕ) → get_or (infilled s foot) i 0 ≤ 64
   -- LDR channels lie between their endpoints
-  pub channels : (t c : ℕ) → c < 4 → mark_of (ends_at o s foot t) c ≡ Ldr
-      → Between (first_of (ends_at o s foot t) c) (second_of (ends_at o s foot t) c) (channel_in (word_at o s foot t) c)
+  pub channels : (t c : ℕ) → c < 4 → mark_of (ends_at s foot t) c ≡ Ldr
+      → Between (first_of (ends_at s foot t) c) (second_of (ends_at s foot t) c) (channel_in (word_at s foot t) c)
   -- no bit outside the map changes anything
-  pub local : (s' : List ℕ) → length s' ≡ 16 → ((i k : ℕ) → In (block_map_with o s foot) i k → bit_of s k ≡ bit_of s' k) → SameOutcome o s s' foot
+  pub local : (s' : List ℕ) → length s' ≡ 16 → ((i k : ℕ) → In (block_map s foot) i k → bit_of s k ≡ bit_of s' k) → SameOutcome s s' foot

@@ -1,7 +1,6 @@
 pub mod Demands
 pub mod DemandLaws
 pub mod Kinds
-pub mod Readings
 pub mod Values
 pub mod Steps
 pub mod Tight

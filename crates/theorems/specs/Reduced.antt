@@ -30,20 +30,19 @@ use Rattle.endpoints_colours.specs.Colours.{nothing, mark_of as ends_mark, first
 use Rattle.endpoints_colours.specs.declared.Mark.{Mark}
 use Rattle.endpoints_colours.specs.declared.Mark.TheVariants.{Ldr, Hdr}
 use Rattle.endpoints_colours.specs.declared.Endpoints.{Endpoints}
-use Rattle.options.specs.declared.Options.{Options}
 use Rattle.params_rules.specs.Fields.{fields_of, answer}
 use Rattle.params.specs.Params.{params_of, ends_field, weights_field}
 use Rattle.params.specs.Laws.{answer-is}
 use Rattle.params.specs.declared.Params.{Params}
 use Rattle.texels.specs.Texels.{blend_by, blended_at, crate_reduction, sample_of, weight_at, texel_word, texel_sample}
 use Rattle.texels_samples.specs.PlaneLaws.{ends-lt}
-use Rattle.block_void.specs.Void.{void_word, magenta, colour_of, void_sample, void_samples, magenta_samples, samples_by}
+use Rattle.block_void.specs.Void.{void_word, void_sample, void_samples}
 use Rattle.block_ordinary.specs.Ordinary.{ordinary_word, ordinary_sample}
 use Rattle.block_ordinary.specs.Facts.{Facts, ready}
 use Rattle.block_ordinary.specs.Parts.{ends-within, weights-light}
-use Rattle.block.specs.Block.{word_of_params, block_word, word_at}
+use Rattle.block.specs.Block.{magenta, colour_of, word_of_params, block_word, word_at}
 use Rattle.block_refusal.specs.RefusalLaws.{texel-not-refused}
-use Rattle.block_channels.specs.BlockChannels.{ordinary_samples, block_samples, texel_answered_with}
+use Rattle.block_channels.specs.BlockChannels.{magenta_samples, samples_by, ordinary_samples, block_samples, texel_answered}
 
 -- ---- what is stated
 -- by whose rule the floats of a block are reduced, by its answer
@@ -114,23 +113,23 @@ one-reduced a v = go (eqb a 1)
     go true = colour-reduced v
     go false = refl
 
-pub reduced-word : (o : Options) (v : ℕ) (foot : Footprint) (t : ℕ) → listed foot ≡ true → block_word o v foot t ≡ word_from (rule_of (answer o (fields_of v) foot)) (texel_of (block_samples o v foot t))
+pub reduced-word : (v : ℕ) (foot : Footprint) (t : ℕ) → listed foot ≡ true → block_word v foot t ≡ word_from (rule_of (answer (fields_of v) foot)) (texel_of (block_samples v foot t))
 unfolding block_word word_of_params block_samples
-reduced-word o v foot t l = rw (← (answer-is o (fields_of v) foot)) (go (ℕ_discrete p.answer 0))
+reduced-word v foot t l = rw (← (answer-is (fields_of v) foot)) (go (ℕ_discrete p.answer 0))
   where
     p : Params
-    p = params_of o v foot
+    p = params_of v foot
 
     go : Dec (p.answer ≡ 0)
         → cond (eqb p.answer 0) (ordinary_word p v foot t) (colour_of p.answer v) ≡ word_from (rule_of p.answer) (texel_of (cond (eqb p.answer 0) (ordinary_samples p v foot t) (samples_by p.answer v)))
-    go (yes z) = rw (eq-eqb p.answer 0 z, ne_eqb p.answer 1 (λ y. omega arith)) (ordinary-reduced p v foot t (ready p o v foot refl z l).facts)
+    go (yes z) = rw (eq-eqb p.answer 0 z, ne_eqb p.answer 1 (λ y. omega arith)) (ordinary-reduced p v foot t (ready p v foot refl z l).facts)
     go (no n) = rw (ne_eqb p.answer 0 n) (one-reduced p.answer v)
 
 -- the same of the two calls: the word that `decode_astc_block` paints is what `texel_channels` answers, reduced
-pub word-reduces : (o : Options) (s : List ℕ) (foot : Footprint) (t : ℕ) → length s ≡ 16 → listed foot ≡ true → t < texels_of foot
-    → word_at o s foot t ≡ word_from (rule_of (texel_answered_with o s foot t).answer) (texel_answered_with o s foot t).texel
-unfolding word_at texel_answered_with
-word-reduces o s foot t h l b = rw (texel-not-refused (length s) foot t h l b) (reduced-word o (bytes 16 s) foot t l)
+pub word-reduces : (s : List ℕ) (foot : Footprint) (t : ℕ) → length s ≡ 16 → listed foot ≡ true → t < texels_of foot
+    → word_at s foot t ≡ word_from (rule_of (texel_answered s foot t).answer) (texel_answered s foot t).texel
+unfolding word_at texel_answered
+word-reduces s foot t h l b = rw (texel-not-refused (length s) foot t h l b) (reduced-word (bytes 16 s) foot t l)
 
 -- ---- numbers and marks
 -- of a sample whose half is a pattern of 16 bits
@@ -165,14 +164,14 @@ pub record Meant (s : Samples) : Type 0 where
   pub a : meant_by (mark_of s.a) (number_of s.a) ≡ channel_of s.a
 
 -- of every texel of every block
-pub numbers-meant : (o : Options) (v : ℕ) (foot : Footprint) (t : ℕ) → Meant (block_samples o v foot t)
+pub numbers-meant : (v : ℕ) (foot : Footprint) (t : ℕ) → Meant (block_samples v foot t)
 unfolding block_samples ordinary_sample
-numbers-meant o v foot t = go (eqb (params_of o v foot).answer 0) (eqb (params_of o v foot).answer 1)
+numbers-meant v foot t = go (eqb (params_of v foot).answer 0) (eqb (params_of v foot).answer 1)
   where
     all : (f : ℕ → Sample) → ((k : ℕ) → Short (f k)) → Meant (record { r = f 0; g = f 1; b = f 2; a = f 3 })
     all f h = record { r = meant (f 0) (h 0); g = meant (f 1) (h 1); b = meant (f 2) (h 2); a = meant (f 3) (h 3) }
 
-    go : (b c : Bool) → Meant (cond b (ordinary_samples (params_of o v foot) v foot t) (cond c (void_samples v) magenta_samples))
-    go true c = all (λ (k : ℕ). ordinary_sample (params_of o v foot) v foot t k) (λ k. texel-short _ _ _ _ _ t k)
+    go : (b c : Bool) → Meant (cond b (ordinary_samples (params_of v foot) v foot t) (cond c (void_samples v) magenta_samples))
+    go true c = all (λ (k : ℕ). ordinary_sample (params_of v foot) v foot t k) (λ k. texel-short _ _ _ _ _ t k)
     go false true = all (void_sample v) (void-short v)
     go false false = record { r = refl; g = refl; b = refl; a = refl }

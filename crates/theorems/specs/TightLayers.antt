@@ -2,10 +2,6 @@
 -- Assumes nothing.
 use Rattle.std.specs.Prelude.{◌≡◌, Bool, List, ℕ, ◌+◌, ◌*◌, ◌/◌, ◌^◌, ◌≤◌, ◌<◌, Float, get_or}
 use Rattle.std.proofs.Common.{sym, ◌∙◌}
-use Rattle.options.specs.Base.{base}
-use Rattle.options.specs.declared.Options.{Options}
-use Rattle.options.specs.declared.Reading.{Reading}
-use Rattle.options.specs.declared.Reading.TheVariants.{Crate}
 use Rattle.laws.specs.Lists.{put, put_at}
 use Rattle.answers.specs.Answers.{is_bad}
 use Rattle.footprint.specs.Footprints.{texels_of, listed}
@@ -20,8 +16,7 @@ use Rattle.sequence_ranges.specs.declared.Kind.TheVariants.{Plain, Trits, Quints
 use Rattle.sequence_ranges.specs.declared.Range.{Range}
 use Rattle.sequence_groups.specs.Sequence.{values_of, group_from}
 use Rattle.half.specs.Half.{half, product_of, hdr_byte_of, void_byte_of}
-use Rattle.params_low.specs.Low.{is_void, low_of, extent_in}
-use Rattle.params_extent.specs.Extent.{void_verdict}
+use Rattle.params_low.specs.Low.{is_void, low_of}
 use Rattle.params_modes.specs.Modes.{modes_of, values_to}
 use Rattle.params_config.specs.Config.{is_reserved, config_of}
 use Rattle.params_config.specs.declared.Config.{Config}
@@ -68,10 +63,6 @@ use Rattle.theorems.specs.Tight.{Tight, TightBoth, TightBlock, one, both, block}
 -- ---- answers
 pub is-bad : (a : ℕ) → Tight Bool (λ r. r ≡ is_bad a)
 is-bad a = one Bool (is_bad a)
-
--- ---- options
-pub no-options : Tight Options (λ r. r ≡ base)
-no-options = one Options base
 
 -- ---- footprint
 pub is-listed : (f : Footprint) → Tight Bool (λ r. r ≡ listed f)
@@ -167,9 +158,6 @@ is-void b = one Bool (is_void (value_of b))
 pub low-config : (b : Block) → Tight ℕ (λ r. r ≡ low_of (value_of b))
 low-config b = one ℕ (low_of (value_of b))
 
-pub void-verdict : (reading : Reading) (b : Block) → Tight ℕ (λ r. r ≡ void_verdict reading (extent_in (value_of b)))
-void-verdict reading b = one ℕ (void_verdict reading (extent_in (value_of b)))
-
 pub modes-of : (parts base code : ℕ) → Tight (List ℕ) (λ r. r ≡ modes_of parts base code)
 modes-of parts base code = one (List ℕ) (modes_of parts base code)
 
@@ -191,30 +179,30 @@ end-range k r s p q = p.0 ∙ sym q.0
 pub no-map : (a : ℕ) → Tight BlockMap (λ r. r ≡ no_map a)
 no-map a = one BlockMap (no_map a)
 
-pub decode-block-map : (o : Options) (b : Block) (f : Footprint) → Tight BlockMap (λ r. r ≡ map_of o (value_of b) f)
-decode-block-map o b f = one BlockMap (map_of o (value_of b) f)
+pub decode-block-map : (b : Block) (f : Footprint) → Tight BlockMap (λ r. r ≡ map_of (value_of b) f)
+decode-block-map b f = one BlockMap (map_of (value_of b) f)
 
-pub decode-block-params : (o : Options) (b : Block) (f : Footprint) → Tight Params (λ r. r ≡ params_of o (value_of b) f)
-decode-block-params o b f = one Params (params_of o (value_of b) f)
+pub decode-block-params : (b : Block) (f : Footprint) → Tight Params (λ r. r ≡ params_of (value_of b) f)
+decode-block-params b f = one Params (params_of (value_of b) f)
 
 -- ---- endpoints
 pub endpoints-unquantize : (q : ℕ) (seq : List ℕ) → Tight (List ℕ) (λ out. out ≡ endpoint_values q seq)
 endpoints-unquantize q seq = one (List ℕ) (endpoint_values q seq)
 
-pub decode-ldr : (mode : ℕ) (v : Values) → Tight Endpoints (λ e. ((r : Reading) → e ≡ endpoints_of r mode v))
-decode-ldr mode v e f p q = p Crate ∙ sym (q Crate)
+pub decode-ldr : (m : ℕ) (v : Values) → Tight Endpoints (λ r. r ≡ endpoints_of m v)
+decode-ldr m v = one Endpoints (endpoints_of m v)
 
 pub parts-of-seven : (m v0 v1 v2 v3 : ℕ) → Tight Seven (λ r. (r ≡ seven_of m v0 v1 v2 v3) × (Below 4096 r))
 parts-of-seven m v0 v1 v2 v3 r s p q = p.0 ∙ sym q.0
 
-pub parts-of-eleven : (reading : Reading) (m : ℕ) (v : Values) → Tight Eleven (λ r. (r ≡ eleven_of reading m v) × (ElevenBounds r))
-parts-of-eleven reading m v r s p q = p.0 ∙ sym q.0
+pub parts-of-eleven : (m : ℕ) (v : Values) → Tight Eleven (λ r. (r ≡ eleven_of m v) × (ElevenBounds r))
+parts-of-eleven m v r s p q = p.0 ∙ sym q.0
 
-pub decode-hdr : (reading : Reading) (m : ℕ) (v : Values) → Tight Endpoints (λ r. r ≡ endpoints_of reading m v)
-decode-hdr reading m v = one Endpoints (endpoints_of reading m v)
+pub decode-hdr : (m : ℕ) (v : Values) → Tight Endpoints (λ r. r ≡ endpoints_of m v)
+decode-hdr m v = one Endpoints (endpoints_of m v)
 
-pub decode-endpoints : (reading : Reading) (parts : ℕ) (modes ev : List ℕ) → Tight (List Endpoints) (λ r. r ≡ endpoints_list reading parts modes ev)
-decode-endpoints reading parts modes ev = one (List Endpoints) (endpoints_list reading parts modes ev)
+pub decode-endpoints : (parts : ℕ) (modes ev : List ℕ) → Tight (List Endpoints) (λ r. r ≡ endpoints_list parts modes ev)
+decode-endpoints parts modes ev = one (List Endpoints) (endpoints_list parts modes ev)
 
 -- ---- weights
 pub weights-unquantize : (n q : ℕ) (seq o : List ℕ) → Tight (List ℕ) (λ out. out ≡ each (weight_of q) seq n o)

@@ -1,7 +1,6 @@
 -- The values P1 to P12 of docs/SCOPE.md, in one statement. Each is computed from the definitions, those of a layer in that layer.
 -- Assumes nothing.
 use Rattle.std.specs.Prelude.{◌≡◌, refl, List, [], ◌∷◌, ℕ, replicate}
-use Rattle.options.specs.declared.Reading.TheVariants.{Crate, Standard}
 use Rattle.laws.specs.Lists.{list_of, map_at, put}
 use Rattle.bits.specs.Bits.{bits_at, bytes, reversed}
 use Rattle.footprint.specs.Footprints.{footprint, one_of2, listed}
@@ -13,7 +12,6 @@ use Rattle.params_low.specs.Low.{is_void, conf_len, low_of, extent_of}
 use Rattle.params_modes.specs.Modes.{class_in, mode_in, values_to}
 use Rattle.params_config.specs.Ranges.{cost}
 use Rattle.params_config.specs.Config.{is_reserved, lacks_dh, grid_low, grid_high, grid_of as mode_grid, weight_r, weight_h, weight_d, parts_of, number_of, mode_base, low_modes, extra_mode_bits, partitions_of, config_of}
-use Rattle.params_extent.specs.Extent.{void_verdict}
 use Rattle.params_rules.specs.Rules.{end_verdict, verdict}
 use Rattle.params_rules.specs.Fields.{fields_of, answer}
 use Rattle.params_rules.specs.Values.{p1, p2, p3}
@@ -35,11 +33,11 @@ use Rattle.weights.specs.Weights.{grid_of, weight_at, weights_of}
 use Rattle.blend.specs.Blend.{between, expand, crate_byte, ldr_channel, hdr_channel, word_of}
 use Rattle.blend.specs.Values.{values as blend-values}
 use Rattle.texels.specs.Texels.{plane_of, texel_word}
-use Rattle.block_void.specs.Void.{void_word, colour_of}
+use Rattle.block_void.specs.Void.{void_word}
 use Rattle.block_refusal.specs.Refusal.{first_refusal, block_refusal}
-use Rattle.block_map.specs.Answer.{answer_of, answer_with, map_answer, block_map, block_map_with}
+use Rattle.block_map.specs.Answer.{answer_of, map_answer, block_map}
 use Rattle.block_ordinary.specs.Ordinary.{ends_of, weights_in, partitions_in, ordinary_word}
-use Rattle.block.specs.Block.{word_of_params, block_word, word_at, painted_of, painted_with}
+use Rattle.block.specs.Block.{colour_of, word_of_params, block_word, word_at, painted_of}
 
 -- P1's block is p1, with byte 8 set to FF it is p2, and P3's is p3. P4's has sixteen zero bytes
 pub p4 : List ℕ
@@ -72,9 +70,8 @@ pub record Values : Type 0 where
   pub P8-286 : ldr_channel 286 286 0 ≡ 30
   pub P9 : hdr_channel 0x700 0x700 0 ≡ 127
   pub P10 : hdr_channel 0x780 0x780 0 ≡ 255
-  -- the first green, in either reading
-  pub P11 : of_list Crate 11 (128 ∷ 0 ∷ 0 ∷ 0 ∷ 127 ∷ 0 ∷ []) ≡ hdr (rgb 1024 0 1024) (rgb 1024 1024 1024) opaque
-  pub P11-standard : of_list Standard 11 (128 ∷ 0 ∷ 0 ∷ 0 ∷ 127 ∷ 0 ∷ []) ≡ hdr (rgb 1024 1032 1024) (rgb 1024 1024 1024) opaque
+  -- the standard has the first green 1032
+  pub P11 : of_list 11 (128 ∷ 0 ∷ 0 ∷ 0 ∷ 127 ∷ 0 ∷ []) ≡ hdr (rgb 1024 0 1024) (rgb 1024 1024 1024) opaque
   -- offsets with 32 added: -1, and -32
   pub P12-offset : offset_of 255 ≡ 31
   pub P12-base : base_of 255 255 ≡ 255
@@ -82,7 +79,7 @@ pub record Values : Type 0 where
   pub P12-zero : base_of 0x40 0 ≡ 0
 
 pub values : Values
-unfolding list_of map_at put bits_at bytes reversed one_of2 listed ranges range_of tops top_of total_of copies repeated spelt size_of digits_of value_in group_of value_at values_of void_byte is_void conf_len low_of extent_of class_in mode_in values_to cost is_reserved lacks_dh grid_low grid_high mode_grid weight_r weight_h weight_d parts_of number_of mode_base low_modes extra_mode_bits partitions_of config_of end_verdict verdict void_verdict fields_of answer p1 p2 p3 widest legal_map no_map map_in channel_of upper_of code_in legal refused params_in trit_rows quint_rows by_row unquantise endpoint_value endpoint_values luminance by_mode endpoints_of values_at count_to partition_endpoints endpoints_list alone table joined digit expanded raised weight_of step_of place_of factors dot infilled infill_at texel_of infill_of grid_of weight_at weights_of between expand crate_byte plane_of texel_word void_word first_refusal block_refusal answer_with map_answer block_map_with ends_of weights_in partitions_in ordinary_word colour_of word_of_params block_word word_at painted_with p4 before after
+unfolding list_of map_at put bits_at bytes reversed one_of2 listed ranges range_of tops top_of total_of copies repeated spelt size_of digits_of value_in group_of value_at values_of void_byte is_void conf_len low_of extent_of class_in mode_in values_to cost is_reserved lacks_dh grid_low grid_high mode_grid weight_r weight_h weight_d parts_of number_of mode_base low_modes extra_mode_bits partitions_of config_of end_verdict verdict fields_of answer p1 p2 p3 widest legal_map no_map map_in channel_of upper_of code_in legal refused params_in trit_rows quint_rows by_row unquantise endpoint_value endpoint_values luminance by_mode endpoints_of values_at count_to partition_endpoints endpoints_list alone table joined digit expanded raised weight_of step_of place_of factors dot infilled infill_at texel_of infill_of grid_of weight_at weights_of between expand crate_byte plane_of texel_word void_word first_refusal block_refusal answer_of map_answer block_map ends_of weights_in partitions_in ordinary_word colour_of word_of_params block_word word_at painted_of p4 before after
 values =
     record {
       P1 = refl;
@@ -101,7 +98,6 @@ values =
       P9 = blend-values.P9;
       P10 = blend-values.P10;
       P11 = endpoint-values.P11;
-      P11-standard = endpoint-values.P11-standard;
       P12-offset = endpoint-values.P12-offset;
       P12-base = endpoint-values.P12-base;
       P12-least = endpoint-values.P12-least;

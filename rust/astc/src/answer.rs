@@ -92,7 +92,7 @@ answers! {
     Legal = 0: "the block is legal, or the image or step was accepted",
     /// A void-extent block, painted in its one colour.
     VoidExtent = 1: "the block is a void-extent block of one colour",
-    /// A reserved block mode. This and those to [`Answer::BadExtent`] are painted magenta.
+    /// A reserved block mode. This and those to [`Answer::TooLittleRoom`] are painted magenta.
     ReservedMode = 10: "the block mode is reserved",
     /// A grid of weights wider or higher than the footprint.
     GridTooLarge = 11: "the grid of weights is wider or higher than the footprint",
@@ -106,16 +106,13 @@ answers! {
     TooManyValues = 15: "the block has more than 18 endpoint values",
     /// Too few bits for the endpoint values.
     TooLittleRoom = 16: "the block has too few bits for its endpoint values",
-    /// A void-extent block that breaks the standard's rules on its extent. Only [`Reading::Standard`](crate::Reading::Standard)
-    /// gives it; in the other reading such a block is [`Answer::VoidExtent`].
-    BadExtent = 17: "the void-extent block breaks the standard's rules on its extent",
     /// The block is not 16 bytes; the output is as it was.
     BlockLength = 20: "the block is not 16 bytes",
     /// The footprint is not one of the fourteen. A [`Footprint`](crate::Footprint) never gives it.
     Footprint = 21: "the footprint is not one of the fourteen",
     /// The output is shorter than what there is to write, and is as it was.
     OutputTooShort = 22: "the output is too short",
-    /// Options that the C function does not take; the output is as it was. No [`Options`](crate::Options) give it.
+    /// Options that the C function does not take; the output is as it was. The functions of this crate never give it.
     Options = 23: "the function does not take these options",
     /// A side of the image is 0 or over 4,096; the output is as it was.
     ImageSide = 30: "a side of the image is 0 or over 4096",
@@ -197,7 +194,7 @@ mod tests {
         for (number, painted, bad) in [
             (2, true, false),
             (9, true, false),
-            (18, true, true),
+            (17, true, true),
             (19, true, true),
             (24, false, false),
             (99, false, false),

@@ -1,13 +1,13 @@
 //! An image by several threads: a band of rows of blocks is an image of its own.
 
 use crate::image::check;
-use crate::{decode_image_with, image_channels_with, Answer, Channel, Footprint, Options};
+use crate::{decode_image, image_channels, Answer, Channel, Footprint};
 use std::io;
 use std::sync::{Mutex, PoisonError};
 use std::thread::{self, Builder, Scope};
 
-/// A function that writes an image's pixels: the options, its data, its width and height, its footprint, and where the pixels go.
-type Paint<P> = fn(Options, &[u8], usize, usize, Footprint, &mut [P]) -> Result<(), Answer>;
+/// A function that writes an image's pixels: its data, its width and height, its footprint, and where the pixels go.
+type Paint<P> = fn(&[u8], usize, usize, Footprint, &mut [P]) -> Result<(), Answer>;
 
 /// A function that starts a thread for some work; or the system starts none, and the work is left alone.
 type Start = for<'scope> fn(&'scope Scope<'scope, '_>, &'scope Work<'scope>) -> io::Result<()>;
@@ -26,7 +26,6 @@ struct Sharing<P> {
     threads: usize,
     start: Start,
     paint: Paint<P>,
-    options: Options,
 }
 
 impl<P: Send> Sharing<P> {
@@ -40,7 +39,7 @@ impl<P: Send> Sharing<P> {
         footprint: Footprint,
         out: &mut [P],
     ) -> Result<(), Answer> {
-        check(self.options, data, width, height, footprint, out.len())?;
+        check(data, width, height, footprint, out.len())?;
         let rows = height.div_ceil(footprint.height());
         let band = rows.div_ceil(self.threads.clamp(1, rows));
         let bytes = band * width.div_ceil(footprint.width()) * 16;
@@ -53,9 +52,8 @@ impl<P: Send> Sharing<P> {
         };
         let work = || {
             while let Some((data, out)) = next() {
-                let height = out.len() / width;
                 // never refused: the image was checked, and a band of it is an image
-                let _ = (self.paint)(self.options, data, width, height, footprint, out);
+                let _ = (self.paint)(data, width, out.len() / width, footprint, out);
             }
         };
         thread::scope(|scope| {
@@ -67,9 +65,9 @@ impl<P: Send> Sharing<P> {
     }
 }
 
-/// Paints an image as [`decode_image`](crate::decode_image) does, its rows of blocks shared out among at most so many threads.
+/// Paints an image as [`decode_image`] does, its rows of blocks shared out among at most so many threads.
 ///
-/// The result and `out` are those of that function, whatever the number of threads; 0 counts as 1. The calling thread is one of
+/// The result and `out` are those of [`decode_image`], whatever the number of threads; 0 counts as 1. The calling thread is one of
 /// them, and paints alone where the system starts no other.
 pub fn decode_image_by_threads(
     data: &[u8],
@@ -79,45 +77,19 @@ pub fn decode_image_by_threads(
     out: &mut [u32],
     threads: usize,
 ) -> Result<(), Answer> {
-    decode_image_by_threads_with(Options::new(), data, width, height, footprint, out, threads)
-}
-
-/// Paints an image as [`decode_image_by_threads`] does, with options.
-///
-/// ```
-/// use astc::{decode_image_by_threads_with, Footprint, Options, Reading};
-/// let options = Options::new().with_reading(Reading::Standard);
-/// let backwards = [0xfc, 0xfd, 0xff, 0xff, 0xff, 0xff, 0xf7, 0xff, 0, 0, 0, 0x80, 0, 0x40, 0xff, 0xff];
-/// let data = [backwards, backwards].concat();
-/// let mut words = [0; 32];
-/// decode_image_by_threads_with(options, &data, 4, 8, Footprint::new(4, 4).unwrap(), &mut words, 2)?;
-/// assert_eq!(words, [0xffff_00ff; 32]);
-/// # Ok::<(), astc::Answer>(())
-/// ```
-pub fn decode_image_by_threads_with(
-    options: Options,
-    data: &[u8],
-    width: usize,
-    height: usize,
-    footprint: Footprint,
-    out: &mut [u32],
-    threads: usize,
-) -> Result<(), Answer> {
-    let paint = decode_image_with;
+    let paint = decode_image;
     let sharing = Sharing {
         threads,
         start,
         paint,
-        options,
     };
     sharing.paint(data, width, height, footprint, out)
 }
 
-/// Writes an image's channels as [`image_channels`](crate::image_channels) does, its rows of blocks shared out among at most so
-/// many threads.
+/// Writes an image's channels as [`image_channels`] does, its rows of blocks shared out among at most so many threads.
 ///
-/// The result and `out` are those of that function, whatever the number of threads; 0 counts as 1. The calling thread is one of
-/// them, and works alone where the system starts no other.
+/// The result and `out` are those of [`image_channels`], whatever the number of threads; 0 counts as 1. The calling thread is one
+/// of them, and works alone where the system starts no other.
 ///
 /// ```
 /// use astc::{image_channels_by_threads, Channel, Footprint};
@@ -137,37 +109,11 @@ pub fn image_channels_by_threads(
     out: &mut [[Channel; 4]],
     threads: usize,
 ) -> Result<(), Answer> {
-    image_channels_by_threads_with(Options::new(), data, width, height, footprint, out, threads)
-}
-
-/// Writes an image's channels as [`image_channels_by_threads`] does, with options.
-///
-/// ```
-/// use astc::{image_channels_by_threads_with, Channel, Footprint, Options, Reading};
-/// let options = Options::new().with_reading(Reading::Standard);
-/// let negative = [0x42, 0x60, 0xe1, 0x01, 0, 0, 0xe0, 0xc0, 0, 0, 0, 0, 0, 0, 0, 0];
-/// let data = [negative, negative].concat();
-/// let mut pixels = [[Channel::Byte(0); 4]; 32];
-/// let footprint = Footprint::new(4, 4).unwrap();
-/// image_channels_by_threads_with(options, &data, 4, 8, footprint, &mut pixels, 2)?;
-/// assert_eq!(pixels, [[1.0, 2.0, 4.0, 1.0].map(Channel::Float); 32]);
-/// # Ok::<(), astc::Answer>(())
-/// ```
-pub fn image_channels_by_threads_with(
-    options: Options,
-    data: &[u8],
-    width: usize,
-    height: usize,
-    footprint: Footprint,
-    out: &mut [[Channel; 4]],
-    threads: usize,
-) -> Result<(), Answer> {
-    let paint = image_channels_with;
+    let paint = image_channels;
     let sharing = Sharing {
         threads,
         start,
         paint,
-        options,
     };
     sharing.paint(data, width, height, footprint, out)
 }
@@ -195,8 +141,7 @@ mod tests {
         let sharing = Sharing {
             threads,
             start,
-            paint: decode_image_with,
-            options: Options::new(),
+            paint: decode_image,
         };
         let outcome = sharing.paint(&data, WIDTH, HEIGHT, footprint, &mut out);
         assert_eq!(outcome, Ok(()));

@@ -1,7 +1,7 @@
 //! Texels channel by channel: bytes, and floats where a block is HDR.
 
 use crate::image::check;
-use crate::{surface, Answer, Footprint, Options};
+use crate::{surface, Answer, Footprint};
 use core::array;
 
 /// A channel of a texel. A texel is four of them: red, green, blue, alpha.
@@ -64,16 +64,10 @@ impl Texels {
     }
 
     /// Reads a block's texels, with room for so many of them; or the archive refuses it.
-    fn read(
-        &mut self,
-        options: Options,
-        block: &[u8],
-        footprint: Footprint,
-        room: usize,
-    ) -> Result<Answer, Answer> {
+    fn read(&mut self, block: &[u8], footprint: Footprint, room: usize) -> Result<Answer, Answer> {
         let room = room.min(TEXELS);
         let (numbers, floats) = (&mut self.numbers[..4 * room], &mut self.floats[..room]);
-        surface::block_channels(options, block, footprint, numbers, floats).carried_out()
+        surface::block_channels(block, footprint, numbers, floats).carried_out()
     }
 
     /// The channels of a texel that was read.
@@ -123,33 +117,8 @@ pub fn block_channels(
     footprint: Footprint,
     out: &mut [[Channel; 4]],
 ) -> Result<Answer, Answer> {
-    block_channels_with(Options::new(), block, footprint, out)
-}
-
-/// Writes the channels of a block as [`block_channels`] does, with options.
-///
-/// A block of the HDR endpoint mode 11 whose first green and blue have negative offsets:
-///
-/// ```
-/// use astc::{block_channels_with, Channel, Footprint, Options, Reading};
-/// let options = Options::new().with_reading(Reading::Standard);
-/// let block = [0x42, 0x60, 0xe1, 0x01, 0, 0, 0xe0, 0xc0, 0, 0, 0, 0, 0, 0, 0, 0];
-/// let footprint = Footprint::new(4, 4).unwrap();
-/// let mut texels = [[Channel::Byte(0); 4]; 16];
-/// let _ = block_channels_with(Options::new(), &block, footprint, &mut texels)?;
-/// assert_eq!(texels, [[1.0, 0.0, 0.0, 1.0].map(Channel::Float); 16]);
-/// let _ = block_channels_with(options, &block, footprint, &mut texels)?;
-/// assert_eq!(texels, [[1.0, 2.0, 4.0, 1.0].map(Channel::Float); 16]);
-/// # Ok::<(), astc::Answer>(())
-/// ```
-pub fn block_channels_with(
-    options: Options,
-    block: &[u8],
-    footprint: Footprint,
-    out: &mut [[Channel; 4]],
-) -> Result<Answer, Answer> {
     let mut texels = Texels::new();
-    let answer = texels.read(options, block, footprint, out.len())?;
+    let answer = texels.read(block, footprint, out.len())?;
     for (i, texel) in out.iter_mut().take(footprint.texels()).enumerate() {
         *texel = texels.texel(i);
     }
@@ -179,36 +148,14 @@ pub fn image_channels(
     footprint: Footprint,
     out: &mut [[Channel; 4]],
 ) -> Result<(), Answer> {
-    image_channels_with(Options::new(), data, width, height, footprint, out)
-}
-
-/// Writes the channels of an image as [`image_channels`] does, with options.
-///
-/// ```
-/// use astc::{image_channels_with, Channel, Footprint, Options, Reading};
-/// let options = Options::new().with_reading(Reading::Standard);
-/// let block = [0x42, 0x60, 0xe1, 0x01, 0, 0, 0xe0, 0xc0, 0, 0, 0, 0, 0, 0, 0, 0];
-/// let mut pixels = [[Channel::Byte(0); 4]; 6];
-/// image_channels_with(options, &block, 3, 2, Footprint::new(4, 4).unwrap(), &mut pixels)?;
-/// assert_eq!(pixels, [[1.0, 2.0, 4.0, 1.0].map(Channel::Float); 6]);
-/// # Ok::<(), astc::Answer>(())
-/// ```
-pub fn image_channels_with(
-    options: Options,
-    data: &[u8],
-    width: usize,
-    height: usize,
-    footprint: Footprint,
-    out: &mut [[Channel; 4]],
-) -> Result<(), Answer> {
-    check(options, data, width, height, footprint, out.len())?;
+    check(data, width, height, footprint, out.len())?;
     let (bw, bh) = (footprint.width(), footprint.height());
     let blocks = data.chunks(16 * width.div_ceil(bw));
     let mut texels = Texels::new();
     for (blocks, rows) in blocks.zip(out[..width * height].chunks_mut(width * bh)) {
         for (column, block) in blocks.chunks(16).enumerate() {
             // never refused: the image was checked, and each of its blocks has 16 bytes
-            let _ = texels.read(options, block, footprint, TEXELS)?;
+            let _ = texels.read(block, footprint, TEXELS)?;
             for (y, row) in rows.chunks_mut(width).enumerate() {
                 for (x, pixel) in row[column * bw..].iter_mut().take(bw).enumerate() {
                     *pixel = texels.texel(y * bw + x);

@@ -1,6 +1,6 @@
 //! Images, whole and in steps.
 
-use crate::{surface, Answer, Footprint, Options};
+use crate::{surface, Answer, Footprint};
 
 /// Paints the first `width * height` words of `out` with an image's pixels, row by row.
 ///
@@ -24,34 +24,11 @@ pub fn decode_image(
     footprint: Footprint,
     out: &mut [u32],
 ) -> Result<(), Answer> {
-    decode_image_with(Options::new(), data, width, height, footprint, out)
-}
-
-/// Paints an image as [`decode_image`] does, with options.
-///
-/// ```
-/// use astc::{decode_image_with, Footprint, Options, Reading};
-/// let options = Options::new().with_reading(Reading::Standard);
-/// let block = [0xfc, 0xfd, 0xff, 0xff, 0xff, 0xff, 0xf7, 0xff, 0, 0, 0, 0x80, 0, 0x40, 0xff, 0xff];
-/// let mut words = [0; 10];
-/// decode_image_with(options, &block, 5, 2, Footprint::new(5, 4).unwrap(), &mut words)?;
-/// assert_eq!(words, [0xffff_00ff; 10]);
-/// # Ok::<(), astc::Answer>(())
-/// ```
-pub fn decode_image_with(
-    options: Options,
-    data: &[u8],
-    width: usize,
-    height: usize,
-    footprint: Footprint,
-    out: &mut [u32],
-) -> Result<(), Answer> {
-    surface::decode_image(options, data, width, height, footprint, out).accepted()
+    surface::decode_image(data, width, height, footprint, out).accepted()
 }
 
 /// The refusal of an image with room for so many pixels, if it is refused.
 pub(crate) fn check(
-    options: Options,
     data: &[u8],
     width: usize,
     height: usize,
@@ -59,7 +36,7 @@ pub(crate) fn check(
     room: usize,
 ) -> Result<(), Answer> {
     // the archive looks for room last, and refuses every image that has none: its sides are at most 4,096 then
-    match surface::decode_image(options, data, width, height, footprint, &mut []) {
+    match surface::decode_image(data, width, height, footprint, &mut []) {
         Answer::OutputTooShort if room >= width * height => Ok(()),
         refusal => Err(refusal),
     }
@@ -119,31 +96,9 @@ impl Cursor {
     /// assert_eq!(words, [0xffff_00ff; 40]);
     /// ```
     pub fn step(self, data: &[u8], blocks: usize, out: &mut [u32]) -> Result<Step, Answer> {
-        self.step_with(Options::new(), data, blocks, out)
-    }
-
-    /// Paints blocks as [`Cursor::step`] does, with options. Each step of an image may have its own.
-    ///
-    /// ```
-    /// use astc::{Cursor, Footprint, Options, Reading};
-    /// let options = Options::new().with_reading(Reading::Standard);
-    /// let block = [0xfc, 0xfd, 0xff, 0xff, 0xff, 0xff, 0xf7, 0xff, 0, 0, 0, 0x80, 0, 0x40, 0xff, 0xff];
-    /// let mut words = [0; 16];
-    /// let start = Cursor::new(4, 4, Footprint::new(4, 4).unwrap());
-    /// assert_eq!(start.step(&block, 1, &mut words)?.bad, 0);
-    /// assert_eq!(start.step_with(options, &block, 1, &mut words)?.bad, 1);
-    /// # Ok::<(), astc::Answer>(())
-    /// ```
-    pub fn step_with(
-        self,
-        options: Options,
-        data: &[u8],
-        blocks: usize,
-        out: &mut [u32],
-    ) -> Result<Step, Answer> {
         let size = (self.width, self.height);
         let (answer, moved) =
-            surface::image_step(options, data, size, self.footprint, self.next, blocks, out);
+            surface::image_step(data, size, self.footprint, self.next, blocks, out);
         answer.accepted()?;
         // each number is a usize of the archive's
         let [next, painted, bad] = moved.map(|n| n as usize);

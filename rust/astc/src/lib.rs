@@ -12,10 +12,6 @@
 //! Words end at 1.0. [`block_channels`] and [`image_channels`] give what lies above it too: each channel as a byte or, where
 //! the block is HDR, as an `f32`.
 //!
-//! A function whose name ends in `_with` takes [`Options`] first. They choose the [`Reading`] of blocks: that of the crate
-//! texture2ddecoder, of which the decoder is a translation, or the standard's. A function without options is that one with the
-//! default, the reading of texture2ddecoder.
-//!
 //! The build script links the archive of the decoder. It is `libastc.a` in the folder that the variable `ASTC_ARCHIVE` names, or in
 //! `target/native` of the repository, where the script has `tools/archive` prove and write it, which takes some minutes the first
 //! time and needs the Rattle kit.
@@ -46,22 +42,15 @@ mod bands;
 mod channels;
 mod footprint;
 mod image;
-mod options;
 pub mod raw;
 mod surface;
 
 pub use answer::{Answer, UnknownAnswer};
 #[cfg(feature = "std")]
-pub use bands::{
-    decode_image_by_threads, decode_image_by_threads_with, image_channels_by_threads,
-    image_channels_by_threads_with,
-};
-pub use channels::{
-    block_channels, block_channels_with, image_channels, image_channels_with, Channel,
-};
+pub use bands::{decode_image_by_threads, image_channels_by_threads};
+pub use channels::{block_channels, image_channels, Channel};
 pub use footprint::{Footprint, NotAFootprint};
-pub use image::{decode_image, decode_image_with, Cursor, Step};
-pub use options::{Options, Reading};
+pub use image::{decode_image, Cursor, Step};
 
 /// Where a field of a block stands.
 #[derive(Clone, Copy, Debug, PartialEq, Eq, Hash)]
@@ -92,31 +81,7 @@ pub struct Map {
 /// A block that breaks a rule is magenta. The call is refused, and `out` left as it was, by [`Answer::BlockLength`] or
 /// [`Answer::OutputTooShort`]; words after the painted ones never change.
 pub fn decode_block(block: &[u8], footprint: Footprint, out: &mut [u32]) -> Result<Answer, Answer> {
-    decode_block_with(Options::new(), block, footprint, out)
-}
-
-/// Paints a block as [`decode_block`] does, with options.
-///
-/// A block of the HDR endpoint mode 11 whose first green has a negative offset:
-///
-/// ```
-/// use astc::{decode_block_with, Footprint, Options, Reading};
-/// let block = [0x42, 0x60, 0xe1, 0x01, 0, 0, 0xe0, 0, 0, 0, 0, 0, 0, 0, 0, 0];
-/// let mut words = [0; 16];
-/// for (reading, word) in [(Reading::Crate, 0xffff_00ff), (Reading::Standard, 0xffff_ffff)] {
-///     let options = Options::new().with_reading(reading);
-///     let _ = decode_block_with(options, &block, Footprint::new(4, 4).unwrap(), &mut words)?;
-///     assert_eq!(words, [word; 16]);
-/// }
-/// # Ok::<(), astc::Answer>(())
-/// ```
-pub fn decode_block_with(
-    options: Options,
-    block: &[u8],
-    footprint: Footprint,
-    out: &mut [u32],
-) -> Result<Answer, Answer> {
-    surface::decode_block(options, block, footprint, out).carried_out()
+    surface::decode_block(block, footprint, out).carried_out()
 }
 
 /// The map of a legal block, or the answer of any other, which has none.
@@ -130,23 +95,8 @@ pub fn decode_block_with(
 /// assert_eq!(block_map(&[0; 16], Footprint::ALL[0]), Err(Answer::ReservedMode));
 /// ```
 pub fn block_map(block: &[u8], footprint: Footprint) -> Result<Map, Answer> {
-    block_map_with(Options::new(), block, footprint)
-}
-
-/// The map of a block as [`block_map`] gives it, with options.
-///
-/// They change no legal block's map; a void-extent block, which has none, may have another answer:
-///
-/// ```
-/// use astc::{block_map_with, Answer, Footprint, Options, Reading};
-/// let options = Options::new().with_reading(Reading::Standard);
-/// let block = [0xfc, 0xfd, 0xff, 0xff, 0xff, 0xff, 0xf7, 0xff, 0, 0, 0, 0x80, 0, 0x40, 0xff, 0xff];
-/// let map = block_map_with(options, &block, Footprint::new(4, 4).unwrap());
-/// assert_eq!(map, Err(Answer::BadExtent));
-/// ```
-pub fn block_map_with(options: Options, block: &[u8], footprint: Footprint) -> Result<Map, Answer> {
     let mut numbers = [0; 9];
-    let answer = surface::block_map(options, block, footprint, &mut numbers);
+    let answer = surface::block_map(block, footprint, &mut numbers);
     if answer != Answer::Legal {
         return Err(answer);
     }

@@ -4,23 +4,9 @@
 //!
 //! Each pointer must have as many places as the length after it says, and an output must overlap nothing else that is passed.
 
-/// The option of the standard's reading in place of that of texture2ddecoder, which 0 is.
-pub const ASTC_STANDARD_READING: u32 = 1;
-
 extern "C" {
     /// Paints a block's texels.
     pub fn astc_decode_block(
-        block: *const u8,
-        block_len: usize,
-        bw: usize,
-        bh: usize,
-        out: *mut u32,
-        out_len: usize,
-    ) -> u32;
-
-    /// Paints a block's texels, with options.
-    pub fn astc_decode_block_with(
-        options: u32,
         block: *const u8,
         block_len: usize,
         bw: usize,
@@ -39,18 +25,7 @@ extern "C" {
         map_len: usize,
     ) -> u32;
 
-    /// Writes the map of a block, nine numbers, with options.
-    pub fn astc_block_map_with(
-        options: u32,
-        block: *const u8,
-        block_len: usize,
-        bw: usize,
-        bh: usize,
-        map: *mut u32,
-        map_len: usize,
-    ) -> u32;
-
-    /// Writes the channels of a block's texels, four numbers a texel, and which of them are floats, with options.
+    /// Writes the channels of a block's texels, four numbers a texel, and which of them are floats.
     pub fn astc_block_channels(
         options: u32,
         block: *const u8,
@@ -75,38 +50,8 @@ extern "C" {
         out_len: usize,
     ) -> u32;
 
-    /// Paints an image, with options.
-    pub fn astc_decode_image_with(
-        options: u32,
-        data: *const u8,
-        data_len: usize,
-        width: usize,
-        height: usize,
-        bw: usize,
-        bh: usize,
-        out: *mut u32,
-        out_len: usize,
-    ) -> u32;
-
     /// Paints some blocks of an image, and writes where that led, three numbers.
     pub fn astc_image_step(
-        data: *const u8,
-        data_len: usize,
-        width: usize,
-        height: usize,
-        bw: usize,
-        bh: usize,
-        next: usize,
-        blocks: usize,
-        out: *mut u32,
-        out_len: usize,
-        moved: *mut u64,
-        moved_len: usize,
-    ) -> u32;
-
-    /// Paints some blocks of an image, and writes where that led, three numbers, with options.
-    pub fn astc_image_step_with(
-        options: u32,
         data: *const u8,
         data_len: usize,
         width: usize,

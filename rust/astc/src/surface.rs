@@ -1,16 +1,14 @@
-//! The archive's five functions with options, over slices. Nothing else in this crate calls the archive.
+//! The archive's five functions, over slices. Nothing else in this crate calls them.
 
 use crate::raw::{
-    astc_block_channels, astc_block_map_with, astc_decode_block_with, astc_decode_image_with,
-    astc_image_step_with,
+    astc_block_channels, astc_block_map, astc_decode_block, astc_decode_image, astc_image_step,
 };
-use crate::{Answer, Footprint, Options};
+use crate::{Answer, Footprint};
 
-pub fn decode_block(options: Options, block: &[u8], f: Footprint, out: &mut [u32]) -> Answer {
+pub fn decode_block(block: &[u8], f: Footprint, out: &mut [u32]) -> Answer {
     // SAFETY: each pointer has as many places as the length after it says, and only `out` is written.
     Answer::of_call(unsafe {
-        astc_decode_block_with(
-            options.bits(),
+        astc_decode_block(
             block.as_ptr(),
             block.len(),
             f.width(),
@@ -21,11 +19,10 @@ pub fn decode_block(options: Options, block: &[u8], f: Footprint, out: &mut [u32
     })
 }
 
-pub fn block_map(options: Options, block: &[u8], f: Footprint, map: &mut [u32; 9]) -> Answer {
+pub fn block_map(block: &[u8], f: Footprint, map: &mut [u32; 9]) -> Answer {
     // SAFETY: each pointer has as many places as the length after it says, and only `map` is written.
     Answer::of_call(unsafe {
-        astc_block_map_with(
-            options.bits(),
+        astc_block_map(
             block.as_ptr(),
             block.len(),
             f.width(),
@@ -37,7 +34,6 @@ pub fn block_map(options: Options, block: &[u8], f: Footprint, map: &mut [u32; 9
 }
 
 pub fn block_channels(
-    options: Options,
     block: &[u8],
     f: Footprint,
     channels: &mut [u32],
@@ -46,7 +42,7 @@ pub fn block_channels(
     // SAFETY: each pointer has as many places as the length after it says, and only `channels` and `floats` are written.
     Answer::of_call(unsafe {
         astc_block_channels(
-            options.bits(),
+            0,
             block.as_ptr(),
             block.len(),
             f.width(),
@@ -60,7 +56,6 @@ pub fn block_channels(
 }
 
 pub fn decode_image(
-    options: Options,
     data: &[u8],
     width: usize,
     height: usize,
@@ -69,8 +64,7 @@ pub fn decode_image(
 ) -> Answer {
     // SAFETY: each pointer has as many places as the length after it says, and only `out` is written.
     Answer::of_call(unsafe {
-        astc_decode_image_with(
-            options.bits(),
+        astc_decode_image(
             data.as_ptr(),
             data.len(),
             width,
@@ -85,7 +79,6 @@ pub fn decode_image(
 
 /// The answer, and the next block, the blocks painted and the bad ones.
 pub fn image_step(
-    options: Options,
     data: &[u8],
     (width, height): (usize, usize),
     f: Footprint,
@@ -96,8 +89,7 @@ pub fn image_step(
     let mut moved = [0; 3];
     // SAFETY: each pointer has as many places as the length after it says, and only `out` and `moved` are written.
     let number = unsafe {
-        astc_image_step_with(
-            options.bits(),
+        astc_image_step(
             data.as_ptr(),
             data.len(),
             width,

@@ -1,14 +1,13 @@
-//! An image by several threads equals the image by one, in words and in channels, in both readings.
+//! An image by several threads equals the image by one, in words and in channels.
 #![cfg(feature = "std")]
 
 use astc::{
-    decode_image, decode_image_by_threads, decode_image_by_threads_with, decode_image_with,
-    image_channels, image_channels_by_threads, image_channels_by_threads_with, image_channels_with,
-    Channel, Footprint,
+    decode_image, decode_image_by_threads, image_channels, image_channels_by_threads, Channel,
+    Footprint,
 };
 
 mod common;
-use common::{bits, blocks, Random, CRATE, STANDARD};
+use common::{bits, blocks, Random};
 
 const SIZES: [(usize, usize); 4] = [(1, 1), (29, 23), (64, 64), (3, 200)];
 const THREADS: [usize; 8] = [0, 1, 2, 3, 4, 5, 7, 1000];
@@ -54,31 +53,6 @@ fn any_number_of_threads_gives_the_same_channels() {
             }
         }
     }
-}
-
-#[test]
-fn threads_decode_in_the_reading_that_is_asked_for() {
-    let footprint = Footprint::ALL[0];
-    let (width, height) = (29, 23);
-    let data = blocks(&mut Random::new(3), footprint.blocks(width, height));
-    let before = [Channel::Float(-7.0); 4];
-    let outcomes = [CRATE, STANDARD].map(|options| {
-        let mut words = [vec![7; width * height], vec![7; width * height]];
-        let [one, three] = &mut words;
-        decode_image_with(options, &data, width, height, footprint, one).unwrap();
-        decode_image_by_threads_with(options, &data, width, height, footprint, three, 3).unwrap();
-        assert!(one == three);
-        let mut channels = [vec![before; width * height], vec![before; width * height]];
-        let [one, three] = &mut channels;
-        image_channels_with(options, &data, width, height, footprint, one).unwrap();
-        image_channels_by_threads_with(options, &data, width, height, footprint, three, 3).unwrap();
-        assert!(one.iter().map(bits).eq(three.iter().map(bits)));
-        (
-            words,
-            channels.map(|pixels| pixels.iter().map(bits).collect::<Vec<_>>()),
-        )
-    });
-    assert!(outcomes[0].0 != outcomes[1].0 && outcomes[0].1 != outcomes[1].1);
 }
 
 #[test]

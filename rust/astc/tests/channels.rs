@@ -1,14 +1,13 @@
 //! Channels of blocks and images: what they are, where they go, and what a refusal leaves alone.
 
-use astc::raw::{astc_block_channels, ASTC_STANDARD_READING};
+use astc::raw::astc_block_channels;
 use astc::{
-    block_channels, block_channels_with, decode_block_with, decode_image, image_channels, Answer,
-    Channel, Footprint,
+    block_channels, decode_block, decode_image, image_channels, Answer, Channel, Footprint,
 };
 use Channel::{Byte, Float};
 
 mod common;
-use common::{bits, blocks, ordinary, Random, CRATE, STANDARD};
+use common::{bits, blocks, Random};
 
 const MAGENTA: [Channel; 4] = [Byte(255), Byte(0), Byte(255), Byte(255)];
 
@@ -17,6 +16,16 @@ const BEFORE: [Channel; 4] = [Float(0.25), Byte(7), Byte(8), Float(-9.0)];
 
 fn four_by_four() -> Footprint {
     Footprint::new(4, 4).unwrap()
+}
+
+/// A legal block of one partition with this endpoint mode and at most eight endpoint values, which it holds in eight bits each. Its
+/// weights are all 0, so that each texel is the first endpoint.
+fn ordinary(mode: u128, values: &[u8]) -> [u8; 16] {
+    let values = (17..)
+        .step_by(8)
+        .zip(values)
+        .map(|(at, &v)| u128::from(v) << at);
+    (0x42 | mode << 13 | values.sum::<u128>()).to_le_bytes()
 }
 
 /// A void block of four halves.
@@ -129,41 +138,36 @@ fn broken_blocks_are_magenta_in_bytes() {
     assert_eq!(texel, MAGENTA);
 }
 
-/// The byte that a word has for a channel.
-fn reduced(channel: Channel) -> u8 {
-    match channel {
-        Byte(byte) => byte,
-        // in a word the void half of minus infinity is 255, as the original has it
-        Float(f) if f == f32::NEG_INFINITY => 255,
-        Float(f) => (f * 255.0).floor().clamp(0.0, 255.0) as u8,
-    }
-}
-
 #[test]
-fn channels_agree_with_words_in_both_readings() {
+fn channels_agree_with_words() {
     let mut random = Random::new(6);
     let (mut floats, mut bytes) = (0, 0);
     for block in blocks(&mut random, 20_000).chunks(16) {
         for footprint in [four_by_four(), Footprint::new(12, 10).unwrap()] {
-            for options in [CRATE, STANDARD] {
-                let mut words = [0; 144];
-                let mut texels = [BEFORE; 144];
-                let answer = decode_block_with(options, block, footprint, &mut words);
-                let ours = block_channels_with(options, block, footprint, &mut texels);
-                assert_eq!(ours, answer);
-                let (texels, rest) = texels.split_at(footprint.texels());
-                for (word, texel) in words.iter().zip(texels) {
-                    let [red, green, blue, alpha] = texel.map(reduced);
-                    assert_eq!(word.to_le_bytes(), [blue, green, red, alpha]);
-                    let marked = texel.iter().filter(|c| c.is_float()).count();
-                    floats += marked;
-                    bytes += 4 - marked;
+            let mut words = [0; 144];
+            let mut texels = [BEFORE; 144];
+            let answer = decode_block(block, footprint, &mut words);
+            assert_eq!(block_channels(block, footprint, &mut texels), answer);
+            for (word, texel) in words.iter().zip(&texels[..footprint.texels()]) {
+                let [blue, green, red, alpha] = word.to_le_bytes();
+                for (byte, channel) in [red, green, blue, alpha].into_iter().zip(texel) {
+                    match *channel {
+                        Byte(b) => assert_eq!(b, byte),
+                        // in a word the void half of minus infinity is 255, as the original has it
+                        Float(f) if f == f32::NEG_INFINITY => assert_eq!(byte, 255),
+                        Float(f) => assert_eq!((f * 255.0).floor().clamp(0.0, 255.0) as u8, byte),
+                    }
+                    *(if channel.is_float() {
+                        &mut floats
+                    } else {
+                        &mut bytes
+                    }) += 1;
                 }
-                assert!(rest.iter().all(|t| *t == BEFORE));
             }
+            assert!(texels[footprint.texels()..].iter().all(|t| *t == BEFORE));
         }
     }
-    assert!(floats > 200_000 && bytes > 200_000);
+    assert!(floats > 100_000 && bytes > 100_000);
 }
 
 #[test]
@@ -216,21 +220,19 @@ fn raw(options: u32, bytes: usize, (bw, bh): (usize, usize), rooms: (usize, usiz
 
 #[test]
 fn the_c_function_checks_in_order() {
-    for options in [2, 3, 4, 5, 8, 16, 1 << 31, u32::MAX] {
+    for options in [1, 2, 4, 8, 16, 1 << 31, u32::MAX] {
         assert_eq!(raw(options, 15, (4, 5), (0, 0)), (23, false));
         assert_eq!(raw(options, 16, (4, 4), (64, 16)), (23, false));
     }
-    for options in [0, ASTC_STANDARD_READING] {
-        assert_eq!(raw(options, 15, (4, 5), (0, 0)), (20, false));
-        assert_eq!(raw(options, 16, (4, 5), (0, 0)), (21, false));
-        assert_eq!(raw(options, 16, (usize::MAX, 4), (0, 0)), (21, false));
-        assert_eq!(raw(options, 16, (4 + (1 << 32), 4), (0, 0)), (21, false));
-        assert_eq!(raw(options, 16, (4, 4), (63, 16)), (22, false));
-        assert_eq!(raw(options, 16, (4, 4), (64, 15)), (22, false));
-        assert_eq!(raw(options, 16, (12, 12), (575, 144)), (22, false));
-        assert_eq!(raw(options, 16, (12, 12), (576, 143)), (22, false));
-        assert_eq!(raw(options, 16, (4, 4), (64, 16)), (10, true));
-    }
+    assert_eq!(raw(0, 15, (4, 5), (0, 0)), (20, false));
+    assert_eq!(raw(0, 16, (4, 5), (0, 0)), (21, false));
+    assert_eq!(raw(0, 16, (usize::MAX, 4), (0, 0)), (21, false));
+    assert_eq!(raw(0, 16, (4 + (1 << 32), 4), (0, 0)), (21, false));
+    assert_eq!(raw(0, 16, (4, 4), (63, 16)), (22, false));
+    assert_eq!(raw(0, 16, (4, 4), (64, 15)), (22, false));
+    assert_eq!(raw(0, 16, (12, 12), (575, 144)), (22, false));
+    assert_eq!(raw(0, 16, (12, 12), (576, 143)), (22, false));
+    assert_eq!(raw(0, 16, (4, 4), (64, 16)), (10, true));
 }
 
 #[test]

@@ -1,20 +1,18 @@
-//! The archive against the original, the model and the rules of docs/SCOPE.md: answers, words, maps, and what must stay; in the crate's
-//! reading, and a share of it in the standard's.
+//! The archive against the original and the rules of docs/SCOPE.md: answers, words, maps, and what must stay.
 
-use crate::run::{run, Options, Tally, WRONG_OPTIONS};
+use crate::run::{run, Options, Tally};
 use crate::screen::Count;
 use judge::block::{Call, NUMBERS};
-use judge::{options, room, Canvas, Sample, SPARE};
+use judge::{room, Canvas, Sample, SPARE};
 use model::blocks::{self, Kind};
 use model::random::Random;
-use model::{Reading, FOOTPRINTS};
+use model::FOOTPRINTS;
 use std::fmt;
 use std::time::Instant;
 
 /// One block: its words and what lies around them, its map, and for a legal block that no unmapped bit matters.
 fn judge(sample: &Sample, random: &mut Random, tally: &mut Tally) -> Result<(), String> {
-    let call = Call::of(sample, random);
-    count_negative(sample, tally);
+    let call = Call::of(sample);
     let words = &mut Canvas::new(room(sample.texels(), random), random);
     call.words(words)?;
     let map = &mut Canvas::new(room(NUMBERS, random), random);
@@ -31,13 +29,6 @@ fn judge(sample: &Sample, random: &mut Random, tally: &mut Tally) -> Result<(), 
     tally.count("legal blocks with an unmapped bit changed");
     let bit = unmapped.start + random.below(unmapped.len());
     call.same_without(bit, words, map)
-}
-
-/// Counts a block of the standard's reading that has a negative offset.
-pub fn count_negative(sample: &Sample, tally: &mut Tally) {
-    if sample.reading == Reading::Standard && sample.has_negative_offset() {
-        tally.count("legal blocks with a negative offset");
-    }
 }
 
 /// Footprints up to 20x20, the largest sizes, sizes whose product wraps, and listed sizes with a high bit set, which a narrower
@@ -71,71 +62,35 @@ pub fn legal_bytes(random: &mut Random) -> [u8; 40] {
     bytes
 }
 
-/// The rooms for words that are tried at a footprint: none, one too few, as many as are wanted, and more.
-fn rooms(texels: usize) -> [usize; 4] {
-    let most = 144 + SPARE;
-    [0, texels.saturating_sub(1), texels, most].map(|room| room.min(most))
-}
-
-/// The most places for a map that are tried.
-const PLACES: usize = 12;
-
-/// Calls that their sizes refuse in the crate's reading, one or several sizes wrong, and with fewer rooms those that options refuse and
-/// those in the standard's reading: the answer, and an output that stays. The sixteen bytes and those after them would be legal blocks.
+/// Calls that their sizes refuse, one or several sizes wrong: the answer, and an output that stays. The sixteen bytes and those
+/// after them would be legal blocks.
 fn compare_refusals(random: &mut Random, tally: &mut Tally) {
     let footprints = footprints();
     let count = Count::of("footprints of refused calls", footprints.len() as u64);
     for (bw, bh) in footprints {
         let bytes = legal_bytes(random);
-        let rooms = rooms(bw.saturating_mul(bh));
+        let texels = bw.saturating_mul(bh);
+        let most = 144 + SPARE;
         for len in 0..=bytes.len() {
-            let call = Call {
-                options: None,
-                block: &bytes[..len],
-                bw,
-                bh,
-            };
-            for room in rooms {
-                compare_words(in_crate_reading(call, random), room, random, tally);
+            let block = &bytes[..len];
+            let call = Call { block, bw, bh };
+            for room in [0, texels.saturating_sub(1), texels, most] {
+                let room = room.min(most);
+                if let Some(answer) = call.refusal(room, texels) {
+                    let outcome = call.words(&mut Canvas::new(room, random));
+                    let what = format_args!("block with room for {room}");
+                    refused(what, call, answer, outcome, tally);
+                }
             }
-            for places in 0..=PLACES {
-                compare_map(in_crate_reading(call, random), places, random, tally);
-            }
-            let standard = Reading::Standard.options();
-            for options in WRONG_OPTIONS.into_iter().chain([standard]) {
-                let options = Some(options);
-                let call = Call { options, ..call };
-                compare_words(call, rooms[random.below(4)], random, tally);
-                compare_map(call, random.below(PLACES + 1), random, tally);
+            for room in 0..=12 {
+                if let Some(answer) = call.refusal(room, NUMBERS) {
+                    let outcome = call.map(&mut Canvas::new(room, random));
+                    let what = format_args!("map with room for {room}");
+                    refused(what, call, answer, outcome, tally);
+                }
             }
         }
         count.add(1);
-    }
-}
-
-/// The call in the crate's reading, by either function.
-fn in_crate_reading<'a>(call: Call<'a>, random: &mut Random) -> Call<'a> {
-    Call {
-        options: options(Reading::Crate, random),
-        ..call
-    }
-}
-
-/// A call for words, if it is one to be refused.
-fn compare_words(call: Call, room: usize, random: &mut Random, tally: &mut Tally) {
-    if let Some(answer) = call.refusal(room, call.texels()) {
-        let outcome = call.words(&mut Canvas::new(room, random));
-        let what = format_args!("block with room for {room}");
-        refused(what, call, answer, outcome, tally);
-    }
-}
-
-/// A call for a map, if it is one to be refused.
-fn compare_map(call: Call, places: usize, random: &mut Random, tally: &mut Tally) {
-    if let Some(answer) = call.refusal(places, NUMBERS) {
-        let outcome = call.map(&mut Canvas::new(places, random));
-        let what = format_args!("map with room for {places}");
-        refused(what, call, answer, outcome, tally);
     }
 }
 
@@ -154,29 +109,12 @@ pub fn refused(
         _ => "calls refused by 23",
     });
     if let Err(difference) = outcome {
-        let Call {
-            options,
-            block,
-            bw,
-            bh,
-        } = call;
+        let Call { block, bw, bh } = call;
         let len = block.len();
         tally.differ(&format!(
-            "{what}, at {bw}x{bh} of {len} bytes with options {options:x?}: {difference}"
+            "{what}, at {bw}x{bh} of {len} bytes: {difference}"
         ));
     }
-}
-
-/// The comparison in the standard's reading; whether there was no difference.
-fn compare_standard(options: &Options) -> bool {
-    let options = &options.for_standard();
-    say!(
-        "the same in the standard's reading, count {}",
-        options.count
-    );
-    let start = Instant::now();
-    let reading = Reading::Standard;
-    run(options, reading, Kind::for_standard, || judge).end(reading, start)
 }
 
 /// The whole comparison; whether there was no difference.
@@ -189,8 +127,5 @@ pub fn compare(options: &Options) -> bool {
     let start = Instant::now();
     let mut refusals = Tally::default();
     compare_refusals(&mut Random::new(options.seed), &mut refusals);
-    let reading = Reading::Crate;
-    let tally = run(options, reading, Kind::of, || judge).plus(refusals);
-    // both are made, and both are told
-    tally.end(reading, start) & compare_standard(options)
+    run(options, Kind::of, || judge).plus(refusals).end(start)
 }

@@ -1,15 +1,14 @@
-//! The archive's channels against the original, the model and the rules on them, and where it was there to build with against astcenc's
-//! floats; in the crate's reading, and a share of it in the standard's.
+//! The archive's channels against the original and the rules on them, and where it was there to build with against astcenc's floats.
 
-use crate::blocks::{count_negative, footprints, legal_bytes, refused};
-use crate::run::{run, Options, Tally, WRONG_OPTIONS};
+use crate::blocks::{footprints, legal_bytes, refused};
+use crate::run::{run, Options, Tally};
 use crate::screen::Count;
 use judge::block::Call;
 use judge::channels::Outputs;
 use judge::{room, Sample, SPARE};
 use model::blocks::Kind;
 use model::random::Random;
-use model::{Reading, CHANNELS, FOOTPRINTS};
+use model::{CHANNELS, FOOTPRINTS};
 use std::array;
 use std::time::Instant;
 
@@ -40,12 +39,11 @@ fn judge(
     random: &mut Random,
     tally: &mut Tally,
 ) -> Result<(), String> {
-    let call = Call::of(sample, random);
-    count_negative(sample, tally);
+    let call = Call::of(sample);
     let texels = sample.texels();
     let rooms = (room(CHANNELS * texels, random), room(texels, random));
     let outputs = &mut Outputs::new(rooms, random);
-    call.channels(outputs)?;
+    call.channels(0, outputs)?;
     let marks = outputs.texels().take(texels);
     let floats: u32 = marks.map(|texel| texel.floats.count_ones()).sum();
     tally.add("channels that are floats", floats as usize);
@@ -74,30 +72,29 @@ fn void(halves: bool, channels: [u16; CHANNELS]) -> [u8; 16] {
     block
 }
 
-/// Void blocks with each half in each channel, and with each 16-bit number; in the standard's reading with each fifth of them.
-fn compare_void(reading: Reading, random: &mut Random, tally: &mut Tally) {
-    let step = match reading {
-        Reading::Crate => 1,
-        Reading::Standard => 5,
-    };
+/// Void blocks with each half in each channel, and with each 16-bit number.
+fn compare_void(random: &mut Random, tally: &mut Tally) {
     let mut astcenc = Astcenc::new();
     let mut judge = move |sample: &Sample, random: &mut Random, tally: &mut Tally| {
         judge(&mut astcenc, sample, random, tally)
     };
-    let count = Count::of("void blocks", (2 << 16) / step as u64);
+    let count = Count::of("void blocks", 2 << 16);
     for (halves, kind) in [
         (true, "void, with each half in each channel"),
         (false, "void, with each 16-bit number in each channel"),
     ] {
-        for number in (0..=u16::MAX).step_by(step) {
+        for number in 0..=u16::MAX {
             let channels = array::from_fn(|k| number.wrapping_add(0x4321 * k as u16));
             let footprint = FOOTPRINTS[usize::from(number) % FOOTPRINTS.len()];
-            let sample = Sample::new(reading, void(halves, channels), footprint);
+            let sample = Sample::new(void(halves, channels), footprint);
             tally.take(kind, &sample, &mut judge, random);
             count.add(1);
         }
     }
 }
+
+/// Options that no call takes yet: those that are planned, and the highest.
+const OPTIONS: [u32; 5] = [1, 2, 4, 8, 1 << 31];
 
 /// Calls that their options or their sizes refuse, one or several wrong: the answer, and two outputs that stay. The sixteen bytes and
 /// those after them would be legal blocks.
@@ -113,19 +110,14 @@ fn compare_refusals(random: &mut Random, tally: &mut Tally) {
         let numbers = rooms(texels.saturating_mul(CHANNELS), CHANNELS * 144 + SPARE);
         let floats = rooms(texels, 144 + SPARE);
         for len in 0..=bytes.len() {
-            let call = |options| Call {
-                options: Some(options),
-                block: &bytes[..len],
-                bw,
-                bh,
-            };
+            let block = &bytes[..len];
+            let call = Call { block, bw, bh };
             for room in numbers.iter().flat_map(|&n| floats.map(|f| (n, f))) {
-                compare_refusal(call(0), room, random, tally);
+                compare_refusal(call, 0, room, random, tally);
             }
-            let standard = Reading::Standard.options();
-            for options in WRONG_OPTIONS.into_iter().chain([standard]) {
+            for options in OPTIONS {
                 let room = (numbers[random.below(4)], floats[random.below(4)]);
-                compare_refusal(call(options), room, random, tally);
+                compare_refusal(call, options, room, random, tally);
             }
         }
         count.add(1);
@@ -133,41 +125,18 @@ fn compare_refusals(random: &mut Random, tally: &mut Tally) {
 }
 
 /// A call, if it is one to be refused.
-fn compare_refusal(call: Call, room: (usize, usize), random: &mut Random, tally: &mut Tally) {
-    if let Some(answer) = call.channels_refusal(room) {
-        let outcome = call.channels(&mut Outputs::new(room, random));
-        let what = format_args!("channels with room for {room:?}");
+fn compare_refusal(
+    call: Call,
+    options: u32,
+    room: (usize, usize),
+    random: &mut Random,
+    tally: &mut Tally,
+) {
+    if let Some(answer) = call.channels_refusal(options, room) {
+        let outcome = call.channels(options, &mut Outputs::new(room, random));
+        let what = format_args!("channels with options {options:x} and room for {room:?}");
         refused(what, call, answer, outcome, tally);
     }
-}
-
-/// The comparison of blocks of all kinds in a reading, which adds to what was compared.
-fn compare_blocks(
-    options: &Options,
-    reading: Reading,
-    kinds: fn(u64) -> Kind,
-    others: Tally,
-) -> Tally {
-    let judges = || {
-        let mut astcenc = Astcenc::new();
-        move |sample: &Sample, random: &mut Random, tally: &mut Tally| {
-            judge(&mut astcenc, sample, random, tally)
-        }
-    };
-    run(options, reading, kinds, judges).plus(others)
-}
-
-/// The comparison in the standard's reading; whether there was no difference.
-fn compare_standard(options: &Options) -> bool {
-    let options = &options.for_standard();
-    say!(
-        "the same in the standard's reading, count {}",
-        options.count
-    );
-    let start = Instant::now();
-    let (reading, mut others) = (Reading::Standard, Tally::default());
-    compare_void(reading, &mut Random::new(options.seed), &mut others);
-    compare_blocks(options, reading, Kind::for_standard, others).end(reading, start)
 }
 
 /// The whole comparison; whether there was no difference.
@@ -178,11 +147,16 @@ pub fn compare(options: &Options) -> bool {
         options.count
     );
     let start = Instant::now();
-    let (reading, mut others) = (Reading::Crate, Tally::default());
+    let mut others = Tally::default();
     let random = &mut Random::new(options.seed);
     compare_refusals(random, &mut others);
-    compare_void(reading, random, &mut others);
-    let tally = compare_blocks(options, reading, Kind::for_channels, others);
-    // both are made, and both are told
-    tally.end(reading, start) & compare_standard(options)
+    compare_void(random, &mut others);
+    let judges = || {
+        let mut astcenc = Astcenc::new();
+        move |sample: &Sample, random: &mut Random, tally: &mut Tally| {
+            judge(&mut astcenc, sample, random, tally)
+        }
+    };
+    let tally = run(options, Kind::for_channels, judges);
+    tally.plus(others).end(start)
 }

@@ -1,17 +1,19 @@
 //! The archive's channels against astcenc's floats, in its profile that knows HDR modes.
 //!
 //! An HDR channel of a legal block is astcenc's float bit for bit, and so is a void half that is no NaN. An LDR channel is a byte
-//! here and a float there, both of one 16-bit number. astcenc keeps what a NaN has beside its sign. Blocks that break a rule are NaNs
-//! there, and in the standard's reading they are the same ones. In the crate's reading two more things are apart: an offset of the modes
-//! 11, 14 and 15 that the standard takes for a negative one, here makes the first endpoint 0; and astcenc judges the extents of void
-//! blocks.
+//! here and a float there, both of one 16-bit number. Three things are apart: an offset of the modes 11, 14 and 15 that the standard
+//! takes for a negative one, here makes the first endpoint 0; astcenc keeps what a NaN has beside its sign; and it judges the extents
+//! of void blocks.
 
 use crate::run::Tally;
 use crate::shim::Context;
 use judge::channels::Outputs;
 use judge::Sample;
-use model::{bits, Layout, Reading, Texel, CHANNELS, FOOTPRINTS, OFFSET_MODES};
+use model::{bits, Layout, Texel, CHANNELS, FOOTPRINTS};
 use original::astc::probe::{self, Channel};
+
+/// The endpoint modes whose offsets have another reading in the standard.
+const OFFSETS: [usize; 3] = [11, 14, 15];
 
 /// How a channel was held to astcenc's.
 #[derive(Clone, Copy)]
@@ -53,8 +55,7 @@ fn sixteen(channel: Channel) -> u32 {
     (257 * (v0 * (64 - weight) + v1 * weight) + 32) as u32 / 64
 }
 
-/// How a channel of a legal block is held to astcenc's, if it is; `offset` is whether its first endpoint has an
-/// offset that the crate and astcenc may read in two ways.
+/// How a channel of a legal block is held to astcenc's, if it is; `offset` is whether its first endpoint has an offset.
 fn legal(channel: Channel, offset: bool, ours: u32, theirs: f32) -> Option<Held> {
     let alike = ours == theirs.to_bits();
     if !channel.hdr {
@@ -101,7 +102,12 @@ impl Astcenc {
         let footprint = (sample.bw, sample.bh);
         let place = FOOTPRINTS.iter().position(|&f| f == footprint).unwrap();
         let context = &mut self.0[place];
-        let refused = refused(sample, context.findings(&sample.block).error != 0)?;
+        let refused = match sample.answer {
+            0 => None,
+            1 => (context.findings(&sample.block).error != 0)
+                .then_some("astcenc: void blocks whose extents it refuses"),
+            _ => Some("astcenc: magenta blocks, NaNs there"),
+        };
         let theirs = context.paint_block_floats(&sample.block);
         if let Some(what) = refused {
             tally.count(what);
@@ -118,22 +124,6 @@ impl Astcenc {
             tally.add(what, count);
         }
         Ok(())
-    }
-}
-
-/// The words for a block that astcenc refuses, if it does. It refuses those that break a rule in the standard's reading; in the crate's
-/// there are void blocks that it refuses beside them.
-fn refused(sample: &Sample, by_astcenc: bool) -> Result<Option<&'static str>, String> {
-    match (sample.answer, by_astcenc) {
-        (0 | 1, false) => Ok(None),
-        (1, true) if sample.reading == Reading::Crate => {
-            Ok(Some("astcenc: void blocks whose extents it refuses"))
-        }
-        (10.., true) => Ok(Some("astcenc: magenta blocks, NaNs there")),
-        (answer, _) => Err(format!(
-            "our answer is {answer}, and astcenc {} the block",
-            if by_astcenc { "refuses" } else { "takes" }
-        )),
     }
 }
 
@@ -170,10 +160,9 @@ fn legal_channels(
 ) -> Result<Counts, String> {
     let modes = Layout::of(&sample.block).modes(&sample.block);
     let texels = probe::texels(&sample.block, sample.bw, sample.bh);
-    let may_part = sample.reading == Reading::Crate;
     channels(ours, theirs, |i, k, number, float| {
         let texel = &texels[i];
-        let offset = may_part && k < 3 && OFFSET_MODES.contains(&modes[texel.partition]);
+        let offset = k < 3 && OFFSETS.contains(&modes[texel.partition]);
         legal(texel.channels[k], offset, number, float)
     })
 }

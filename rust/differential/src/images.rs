@@ -1,41 +1,20 @@
-//! Whole images, images in steps and refused ones, of blocks of all kinds and of options and sizes that are right or wrong; in the crate's
-//! reading, and a share of them in the standard's.
+//! Whole images, images in steps and refused ones, of blocks of all kinds and of sizes that are right or wrong.
 
-use crate::run::{Options, Tally, WRONG_OPTIONS};
+use crate::run::{Options, Tally};
 use crate::screen::Count;
 use judge::image::{refused, Image, Moved, Step, MOVED};
-use judge::{options, room, Canvas, Sample, SPARE};
+use judge::{room, Canvas, Sample, SPARE};
 use model::blocks::{Kind, Legal};
 use model::random::Random;
-use model::{Reading, Shape, FOOTPRINTS};
+use model::{Shape, FOOTPRINTS};
 use std::time::Instant;
 
-/// An image to be made for a reading: the options by which it is called for, its sizes, and whether it has only blocks that the original
-/// alone judges.
-#[derive(Clone, Copy)]
-struct Plan {
-    reading: Reading,
-    options: Option<u32>,
-    shape: Shape,
-    judged: bool,
-}
-
-/// The data of an image of blocks of all kinds, or only of those that the original alone judges.
-fn data(plan: Plan, legal: &Legal, random: &mut Random) -> Vec<u8> {
-    let Plan {
-        reading,
-        shape,
-        judged,
-        ..
-    } = plan;
+/// The data of an image of blocks of all kinds, or only of those that the original judges.
+fn data(shape: Shape, judged: bool, legal: &Legal, random: &mut Random) -> Vec<u8> {
     let footprint = (shape.bw, shape.bh);
-    let kinds = match reading {
-        Reading::Crate => Kind::of,
-        Reading::Standard => Kind::for_standard,
-    };
     let block = |_| loop {
-        let kind = kinds(random.number());
-        let sample = Sample::new(reading, kind.block(random, footprint, legal), footprint);
+        let kind = Kind::of(random.number());
+        let sample = Sample::new(kind.block(random, footprint, legal), footprint);
         if sample.judged() || !judged {
             break sample.block;
         }
@@ -154,7 +133,7 @@ fn sizes(bw: usize, bh: usize) -> Vec<(usize, usize)> {
     ]
 }
 
-/// The shape of the image of this number, and whether it has only blocks that the original alone judges: each size at each footprint both
+/// The shape of the image of this number, and whether it has only blocks that the original judges: each size at each footprint both
 /// ways, then random sizes.
 fn shape(number: usize, random: &mut Random) -> (Shape, bool) {
     let (round, place) = (number / FOOTPRINTS.len(), number % FOOTPRINTS.len());
@@ -173,12 +152,18 @@ fn shape(number: usize, random: &mut Random) -> (Shape, bool) {
 }
 
 /// Holds an image to what it must become, at once and in steps.
-fn compare_image(what: &str, plan: Plan, legal: &[Legal], random: &mut Random, tally: &mut Tally) {
-    let shape = plan.shape;
+fn compare_image(
+    what: &str,
+    shape: Shape,
+    judged: bool,
+    legal: &[Legal],
+    random: &mut Random,
+    tally: &mut Tally,
+) {
     let place = FOOTPRINTS.iter().position(|&f| f == (shape.bw, shape.bh));
     let legal = &legal[place.expect("an image's footprint is listed")];
-    let data = data(plan, legal, random);
-    let outcome = Image::new(plan.options, shape, &data).and_then(|image| {
+    let data = data(shape, judged, legal, random);
+    let outcome = Image::new(shape, &data).and_then(|image| {
         let (total, bad) = (image.blocks(), image.bad(0..image.blocks()));
         tally.add("blocks of images", total);
         tally.add("bad blocks of images", bad);
@@ -251,11 +236,9 @@ fn shapes(right: Shape) -> Vec<Shape> {
         .collect()
 }
 
-/// The options and sizes of calls that are refused.
-#[derive(Clone, Copy)]
+/// The sizes of calls that are refused.
 struct Refused<'a> {
     seed: u64,
-    options: Option<u32>,
     data: &'a [u8],
     shape: Shape,
     room: usize,
@@ -264,27 +247,24 @@ struct Refused<'a> {
 impl Refused<'_> {
     /// An image: its answer, and an output that stays.
     fn image(&self, random: &mut Random, tally: &mut Tally) {
-        let number = self.options.unwrap_or(0);
-        let Some(answer) = self.shape.refusal(number, self.data.len(), self.room) else {
+        let Some(answer) = self.shape.refusal(self.data.len(), self.room) else {
             return;
         };
         let mut canvas = Canvas::new(self.room, random);
-        let outcome = refused(self.options, self.data, self.shape, answer, &mut canvas);
+        let outcome = refused(self.data, self.shape, answer, &mut canvas);
         self.end(answer, &canvas, outcome, tally);
     }
 
     /// A step with so many places for its numbers.
     fn step(&self, step: Step, wide: usize, random: &mut Random, tally: &mut Tally) {
-        let (options, data, shape) = (self.options, self.data, self.shape);
-        let Step { next, blocks } = step;
-        let number = options.unwrap_or(0);
-        let answer = shape.step_refusal(number, data.len(), self.room, wide, next, blocks);
-        let Some(answer) = answer else {
+        let (data, shape) = (self.data, self.shape);
+        let Some(answer) = shape.step_refusal(data.len(), self.room, wide, step.next, step.blocks)
+        else {
             return;
         };
         let mut canvas = Canvas::new(self.room, random);
         let moved = &mut Moved::new(wide, random);
-        let outcome = step.refused(options, data, shape, answer, &mut canvas, moved);
+        let outcome = step.refused(data, shape, answer, &mut canvas, moved);
         self.end(answer, &canvas, outcome, tally);
     }
 
@@ -294,7 +274,6 @@ impl Refused<'_> {
         tally.count(match answer {
             21 => "calls refused by 21",
             22 => "calls refused by 22",
-            23 => "calls refused by 23",
             30 => "calls refused by 30",
             31 => "calls refused by 31",
             33 => "calls refused by 33",
@@ -302,10 +281,9 @@ impl Refused<'_> {
         });
         if let Err(difference) = outcome {
             tally.differ(&format!(
-                "call of seed {}, {:?} with options {:x?}, {} bytes and room for {}: {difference}",
+                "call of seed {}, {:?} with {} bytes and room for {}: {difference}",
                 self.seed,
                 self.shape,
-                self.options,
                 self.data.len(),
                 self.room
             ));
@@ -313,58 +291,10 @@ impl Refused<'_> {
     }
 }
 
-/// Steps from these blocks, of these sizes and with so many places are refused in each combination, where something is wrong.
-struct Steps {
-    next: [usize; 5],
-    blocks: [usize; 3],
-    places: usize,
-}
-
-impl Steps {
-    fn of(total: usize) -> Self {
-        let half = 1 << (usize::BITS / 2);
-        Steps {
-            next: [0, total, total + 1, total | half, usize::MAX],
-            blocks: [0, 1, usize::MAX],
-            places: MOVED + 2,
-        }
-    }
-
-    /// An image and all steps, in the crate's reading by either function.
-    fn compare_all(&self, call: Refused, random: &mut Random, tally: &mut Tally) {
-        let by_turns = |random: &mut Random| Refused {
-            options: options(Reading::Crate, random),
-            ..call
-        };
-        by_turns(random).image(random, tally);
-        for next in self.next {
-            for blocks in self.blocks {
-                for wide in 0..self.places {
-                    by_turns(random).step(Step { next, blocks }, wide, random, tally);
-                }
-            }
-        }
-    }
-
-    /// An image and one of the steps, with options that are refused and with that of the standard's reading.
-    fn compare_options(&self, call: Refused, random: &mut Random, tally: &mut Tally) {
-        let wrong = WRONG_OPTIONS[random.below(WRONG_OPTIONS.len())];
-        for options in [wrong, Reading::Standard.options()] {
-            let options = Some(options);
-            let call = Refused { options, ..call };
-            call.image(random, tally);
-            let step = Step {
-                next: self.next[random.below(self.next.len())],
-                blocks: self.blocks[random.below(self.blocks.len())],
-            };
-            call.step(step, random.below(self.places), random, tally);
-        }
-    }
-}
-
-/// Images and steps that their options or their sizes refuse, one or several wrong. Each block of the data would be legal.
+/// Images and steps that their sizes refuse, one or several sizes wrong. Each block of the data would be legal.
 fn compare_refusals(seed: u64, legal: &[Legal], tally: &mut Tally) {
     let random = &mut Random::new(seed);
+    let half = 1 << (usize::BITS / 2);
     let count = Count::of("footprints of refused calls", FOOTPRINTS.len() as u64);
     for (&(bw, bh), legal) in FOOTPRINTS.iter().zip(legal) {
         let right = Shape {
@@ -374,7 +304,7 @@ fn compare_refusals(seed: u64, legal: &[Legal], tally: &mut Tally) {
             bh,
         };
         let (total, pixels) = (right.blocks(), right.pixels());
-        let (size, steps) = (16 * total, Steps::of(total));
+        let size = 16 * total;
         let data: Vec<u8> = (0..=total)
             .flat_map(|_| legal.pick(random).fill(random))
             .collect();
@@ -383,76 +313,23 @@ fn compare_refusals(seed: u64, legal: &[Legal], tally: &mut Tally) {
                 for room in [0, pixels - 1, pixels, pixels + SPARE] {
                     let call = Refused {
                         seed,
-                        options: None,
                         data: &data[..len],
                         shape,
                         room,
                     };
-                    steps.compare_all(call, random, tally);
-                    steps.compare_options(call, random, tally);
+                    call.image(random, tally);
+                    for next in [0, total, total + 1, total | half, usize::MAX] {
+                        for blocks in [0, 1, usize::MAX] {
+                            for wide in 0..MOVED + 2 {
+                                call.step(Step { next, blocks }, wide, random, tally);
+                            }
+                        }
+                    }
                 }
             }
         }
         count.add(1);
     }
-}
-
-/// The footprints of the largest images: the smallest and the largest one, and in the standard's reading, where blocks are not painted by
-/// the original alone and take long, the largest one.
-fn largest(reading: Reading) -> &'static [(usize, usize)] {
-    match reading {
-        Reading::Crate => &[FOOTPRINTS[0], FOOTPRINTS[13]],
-        Reading::Standard => &[FOOTPRINTS[13]],
-    }
-}
-
-/// Images in a reading, so many and the largest; how many there were. The functions that paint them are drawn apart, so that the images
-/// are the same whichever these are.
-fn compare_images(run: &Options, reading: Reading, legal: &[Legal], tally: &mut Tally) -> u64 {
-    let (seed, largest) = (run.seed, largest(reading));
-    let total = run.count + largest.len() as u64;
-    let images = Count::of("images", total);
-    let functions = &mut Random::new(!seed);
-    let mut compare = |what: &str, (shape, judged), random: &mut Random| {
-        let plan = Plan {
-            reading,
-            options: options(reading, functions),
-            shape,
-            judged,
-        };
-        compare_image(what, plan, legal, random, tally);
-        images.add(1);
-    };
-    for number in 0..run.count {
-        let random = &mut Random::part(seed, number);
-        let shape = shape(number as usize, random);
-        compare(&format!("image {number} of seed {seed}"), shape, random);
-    }
-    for &(bw, bh) in largest {
-        let random = &mut Random::part(!seed, bw as u64);
-        let shape = Shape {
-            width: 4096,
-            height: 4096,
-            bw,
-            bh,
-        };
-        let what = format!("the largest image of seed {seed}");
-        compare(&what, (shape, false), random);
-    }
-    total
-}
-
-/// The comparison in the standard's reading; whether there was no difference.
-fn compare_standard(options: &Options, legal: &[Legal]) -> bool {
-    let options = &options.for_standard();
-    say!(
-        "the same in the standard's reading, count {}",
-        options.count
-    );
-    let start = Instant::now();
-    let mut tally = Tally::default();
-    let images = compare_images(options, Reading::Standard, legal, &mut tally);
-    tally.close(&format!("{images} images"), start)
 }
 
 /// The whole comparison; whether there was no difference.
@@ -463,7 +340,25 @@ pub fn compare(options: &Options) -> bool {
     let legal = FOOTPRINTS.map(|(bw, bh)| Legal::at(bw, bh));
     let mut tally = Tally::default();
     compare_refusals(seed, &legal, &mut tally);
-    let images = compare_images(options, Reading::Crate, &legal, &mut tally);
-    // both are made, and both are told
-    tally.close(&format!("{images} images"), start) & compare_standard(options, &legal)
+    let images = Count::of("images", count + 2);
+    for number in 0..count {
+        let random = &mut Random::part(seed, number);
+        let (shape, judged) = shape(number as usize, random);
+        let what = format!("image {number} of seed {seed}");
+        compare_image(&what, shape, judged, &legal, random, &mut tally);
+        images.add(1);
+    }
+    for (bw, bh) in [FOOTPRINTS[0], FOOTPRINTS[13]] {
+        let random = &mut Random::part(!seed, bw as u64);
+        let shape = Shape {
+            width: 4096,
+            height: 4096,
+            bw,
+            bh,
+        };
+        let what = format!("the largest image of seed {seed}");
+        compare_image(&what, shape, false, &legal, random, &mut tally);
+        images.add(1);
+    }
+    tally.close(&format!("{} images", count + 2), start)
 }

@@ -24,29 +24,26 @@ const USAGE: &str = "usage: differential blocks|astcenc|channels [--seed N] [--c
 [--count N], or differential speed [PART ..] [--runs N], or differential --help";
 
 const HELP: &str = "\
-Holds the archive of the C surface to the original, to the rules of docs/SCOPE.md and to Arm's astcenc, and times it beside them. Each
-comparison is made in the crate's reading, which is the original's, and then with half as many blocks or images in the standard's.
+Holds the archive of the C surface to the original, to the rules of docs/SCOPE.md and to Arm's astcenc, and times it beside them.
 
     differential blocks [--seed N] [--count N] [--threads N]
-        compares answers, words and maps of blocks with the original and with the rules, and in the standard's reading with a model of its
-        endpoints
+        compares answers, words and maps of blocks with the original and with the rules
     differential astcenc [--seed N] [--count N] [--threads N]
         compares legality, parameters and LDR words of blocks with astcenc, where its library (Debian's libastcenc-dev) was there
-        to build with; void blocks in the standard's reading alone
+        to build with
     differential channels [--seed N] [--count N] [--threads N]
         compares channels of blocks with the original, with the rules on them, and with astcenc's floats
     differential images [--seed N] [--count N]
         compares whole images, images in steps and refused ones with the original and with the rules
     differential speed [PART ..] [--runs N]
         times the archive, the original and astcenc on the same images, and says which of the marks that are set for it are met;
-        PART is pictures, hdr, floats, kinds, calls, linear, threads, stack or readings, and without one all are measured; readings times
-        the standard's reading beside the crate's, and all else is timed in the crate's
+        PART is pictures, hdr, floats, kinds, calls, linear, threads or stack, and without one all are measured
     differential --help
         says this
 
     --seed N     chooses other blocks; without it N is 1
-    --count N    how many blocks are made in the crate's reading beside those of all first eleven bits at every footprint, or how many
-                 images beside the largest; without it 1000000 blocks, 500000 for channels, or 2000 images
+    --count N    how many blocks are made beside those of all first eleven bits at every footprint, or how many images beside the
+                 two largest; without it 1000000 blocks, 500000 for channels, or 2000 images
     --threads N  how many threads compare, at least 1; without it one for each processor
     --runs N     how often each decoder paints an image, at least 1; without it 21 times
 

@@ -1,11 +1,11 @@
-//! A long run over blocks of all kinds in one reading, in parts that threads take in turn. A seed and a count give the same blocks to any
-//! judge, with any number of threads.
+//! A long run over blocks of all kinds, in parts that threads take in turn. A seed and a count give the same blocks to any judge,
+//! with any number of threads.
 
 use crate::screen::Count;
 use judge::Sample;
 use model::blocks::{self, Kind, Legal};
 use model::random::Random;
-use model::{Reading, FOOTPRINTS};
+use model::{ANSWERS, FOOTPRINTS};
 use std::collections::BTreeMap;
 use std::sync::atomic::{AtomicU64, Ordering};
 use std::thread;
@@ -16,16 +16,6 @@ pub struct Options {
     /// How many blocks are made beside those of all first eleven bits at every footprint, or how many images.
     pub count: u64,
     pub threads: u64,
-}
-
-impl Options {
-    /// The options of the run in the standard's reading that belongs to this one: half as many, of kinds that are made for it.
-    pub fn for_standard(&self) -> Self {
-        Options {
-            count: self.count / 2,
-            ..*self
-        }
-    }
 }
 
 /// The blocks of one part of a run.
@@ -42,9 +32,6 @@ const SHOWN: u64 = 5;
 pub trait Judge: FnMut(&Sample, &mut Random, &mut Tally) -> Result<(), String> {}
 
 impl<F: FnMut(&Sample, &mut Random, &mut Tally) -> Result<(), String>> Judge for F {}
-
-/// Options that every call refuses: planned ones, also beside the one that is taken, and the highest.
-pub const WRONG_OPTIONS: [u32; 6] = [2, 3, 4, 8, 1 << 31, u32::MAX];
 
 /// What was compared.
 #[derive(Default)]
@@ -107,12 +94,12 @@ impl Tally {
         self
     }
 
-    /// Prints the counts of a run over blocks in a reading; whether there was no difference.
-    pub fn end(&self, reading: Reading, start: Instant) -> bool {
+    /// Prints the counts of a run over blocks; whether there was no difference.
+    pub fn end(&self, start: Instant) -> bool {
         for (kind, count) in &self.kinds {
             say!("blocks, {kind}: {count}");
         }
-        for &answer in reading.answers() {
+        for answer in ANSWERS {
             let count = self.answers.get(&answer).copied().unwrap_or(0);
             assert!(count > 0, "no block with answer {answer} was compared");
             say!("blocks of answer {answer}: {count}");
@@ -138,7 +125,6 @@ impl Tally {
 /// The blocks of a run, in parts: first those of all first eleven bits, a part for each footprint, then those of all kinds.
 struct Source<'a> {
     options: &'a Options,
-    reading: Reading,
     /// The kind of the block of each number.
     kinds: fn(u64) -> Kind,
     legal: [Legal; FOOTPRINTS.len()],
@@ -162,7 +148,7 @@ impl Source<'_> {
                 .map(|block| {
                     (
                         "each of the first eleven bits",
-                        Sample::new(self.reading, block, footprint),
+                        Sample::new(block, footprint),
                     )
                 })
                 .collect();
@@ -173,25 +159,20 @@ impl Source<'_> {
                 let kind = (self.kinds)(number);
                 let place = random.below(FOOTPRINTS.len());
                 let block = kind.block(random, FOOTPRINTS[place], &self.legal[place]);
-                (
-                    kind.name(),
-                    Sample::new(self.reading, block, FOOTPRINTS[place]),
-                )
+                (kind.name(), Sample::new(block, FOOTPRINTS[place]))
             })
             .collect()
     }
 }
 
-/// Hands each block of a run in a reading to the judge of a thread. The kinds are those of the blocks by their numbers.
+/// Hands each block of a run to the judge of a thread. The kinds are those of the blocks by their numbers.
 pub fn run<J: Judge>(
     options: &Options,
-    reading: Reading,
     kinds: fn(u64) -> Kind,
     judge: impl Fn() -> J + Sync,
 ) -> Tally {
     let source = Source {
         options,
-        reading,
         kinds,
         legal: FOOTPRINTS.map(|(bw, bh)| Legal::at(bw, bh)),
     };

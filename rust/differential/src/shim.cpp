@@ -8,7 +8,6 @@ static const astcenc_swizzle as_it_is = {ASTCENC_SWZ_R, ASTCENC_SWZ_G, ASTCENC_S
 
 struct Findings {
     uint32_t error;
-    uint32_t is_void;
     uint32_t dual;
     uint32_t channel;
     uint32_t partitions;
@@ -47,7 +46,6 @@ int shim_findings(void *context, const uint8_t *block, Findings *findings) {
     }
     *findings = Findings {};
     findings->error = info.is_error_block;
-    findings->is_void = info.is_constant_block;
     if (info.is_error_block || info.is_constant_block) {
         return 0;
     }

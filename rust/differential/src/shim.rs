@@ -9,7 +9,6 @@ use std::ptr::NonNull;
 #[derive(Default, Debug, PartialEq, Eq)]
 pub struct Findings {
     pub error: u32,
-    pub void: u32,
     pub dual: u32,
     pub channel: u32,
     pub partitions: u32,

@@ -46,8 +46,5 @@ fn no_line_tells_how_far_it_is_where_there_is_no_terminal() {
     assert!(said.stderr.is_empty());
     let told = String::from_utf8(said.stdout).unwrap();
     assert!(told.contains("\n29672 blocks, 0 differences, "), "{told}");
-    let standard = "\nthe same in the standard's reading, count 500\n";
-    assert!(told.contains(standard), "{told}");
-    assert!(told.contains("\n29172 blocks, 0 differences, "), "{told}");
     assert!(!told.contains('\r'));
 }

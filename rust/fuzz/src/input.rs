@@ -1,13 +1,12 @@
 //! What the bytes of an input ask for.
 //!
 //! The first byte chooses the function, and for each kind of size whether it is one that is mostly accepted, made of a byte, or any
-//! number. The second chooses the options. The sizes follow, and the rest is the block or the image's data. Bytes that are missing are
-//! zeros.
+//! number. The sizes follow, and the rest is the block or the image's data. Bytes that are missing are zeros.
 
 use judge::block::NUMBERS;
 use judge::image::{Step, MOVED};
 use judge::SPARE;
-use model::{Reading, Shape, FOOTPRINTS};
+use model::{Shape, FOOTPRINTS};
 use std::fmt;
 
 /// The functions, in the first two bits of an input and the eighth.
@@ -24,14 +23,8 @@ pub const ANY_SIDES: u8 = 1 << 3;
 pub const ANY_ROOM: u8 = 1 << 4;
 pub const ANY_STEP: u8 = 1 << 5;
 pub const ANY_LENGTH: u8 = 1 << 6;
-
-/// What the second byte chooses, by its remainder: the function without options, options that are taken, or any, which follow it.
-pub const WITHOUT: u8 = 0;
-pub const CRATE: u8 = 1;
-pub const STANDARD: u8 = 2;
-pub const ANY_OPTIONS: u8 = 3;
-/// How many choices there are.
-pub const CHOICES: u8 = 4;
+/// A block has no sides, and only its channels have options.
+pub const ANY_OPTIONS: u8 = ANY_SIDES;
 
 /// The most blocks of a side of an image whose sides are not any numbers.
 const SIDE: usize = 4;
@@ -40,11 +33,10 @@ const MOST_BLOCKS: usize = 32;
 /// The most words of an output, which are enough for them.
 const MOST_WORDS: usize = MOST_BLOCKS * 144;
 
-/// What an input asks for. Options are none where the function without them is called.
+/// What an input asks for.
 pub enum Request {
     /// A block's words, and for a legal block its map, and both again with one of the unmapped bits changed.
     Words {
-        options: Option<u32>,
         bw: usize,
         bh: usize,
         bit: usize,
@@ -52,7 +44,6 @@ pub enum Request {
         block: Vec<u8>,
     },
     Map {
-        options: Option<u32>,
         bw: usize,
         bh: usize,
         room: usize,
@@ -61,7 +52,7 @@ pub enum Request {
     /// A block's channels, and for a legal block again with one of the unmapped bits changed; the room is that for numbers and that for
     /// marks.
     Channels {
-        options: Option<u32>,
+        options: u32,
         bw: usize,
         bh: usize,
         bit: usize,
@@ -69,35 +60,29 @@ pub enum Request {
         block: Vec<u8>,
     },
     Image {
-        options: Option<u32>,
         shape: Shape,
         room: usize,
         data: Vec<u8>,
     },
-    Steps(Steps),
-}
-
-/// A step that writes its numbers to so many places; and, where it is accepted, all of the image in steps of these sizes in turn.
-pub struct Steps {
-    pub options: Option<u32>,
-    pub shape: Shape,
-    pub step: Step,
-    pub places: usize,
-    pub paces: [usize; 3],
-    pub room: usize,
-    pub data: Vec<u8>,
+    /// A step that writes its numbers to so many places; and, where it is accepted, all of the image in steps of these sizes in turn.
+    Steps {
+        shape: Shape,
+        step: Step,
+        places: usize,
+        paces: [usize; 3],
+        room: usize,
+        data: Vec<u8>,
+    },
 }
 
 impl Request {
     pub fn read(input: &[u8]) -> Self {
         let (&first, rest) = input.split_first().unwrap_or((&0, &[]));
         let bytes = &mut Bytes { first, rest };
-        let options = bytes.options();
         match first & FUNCTIONS {
             WORDS => {
                 let (bw, bh) = bytes.footprint();
                 Request::Words {
-                    options,
                     bw,
                     bh,
                     bit: bytes.byte(),
@@ -108,7 +93,6 @@ impl Request {
             MAP => {
                 let (bw, bh) = bytes.footprint();
                 Request::Map {
-                    options,
                     bw,
                     bh,
                     room: bytes.room(NUMBERS),
@@ -118,7 +102,6 @@ impl Request {
             IMAGE => {
                 let shape = bytes.shape();
                 Request::Image {
-                    options,
                     shape,
                     room: bytes.room(shape.width.saturating_mul(shape.height)),
                     data: bytes.data(16 * blocks(shape)),
@@ -126,21 +109,20 @@ impl Request {
             }
             STEPS => {
                 let shape = bytes.shape();
-                Request::Steps(Steps {
-                    options,
+                Request::Steps {
                     shape,
                     step: bytes.step(blocks(shape)),
                     places: bytes.places(),
                     paces: [bytes.pace(), bytes.pace(), bytes.pace()],
                     room: bytes.room(shape.width.saturating_mul(shape.height)),
                     data: bytes.data(16 * blocks(shape)),
-                })
+                }
             }
             _ => {
                 let (bw, bh) = bytes.footprint();
                 let texels = bw.saturating_mul(bh);
                 Request::Channels {
-                    options,
+                    options: bytes.options(),
                     bw,
                     bh,
                     bit: bytes.byte(),
@@ -159,26 +141,18 @@ impl fmt::Display for Request {
     fn fmt(&self, f: &mut fmt::Formatter) -> fmt::Result {
         match self {
             Request::Words {
-                options,
                 bw,
                 bh,
                 room,
                 block,
                 ..
-            } => write!(
-                f,
-                "block {block:02x?} at {bw}x{bh} with options {options:x?} and room for {room}"
-            ),
+            } => write!(f, "block {block:02x?} at {bw}x{bh} with room for {room}"),
             Request::Map {
-                options,
                 bw,
                 bh,
                 room,
                 block,
-            } => write!(
-                f,
-                "map of {block:02x?} at {bw}x{bh} with options {options:x?} and room for {room}"
-            ),
+            } => write!(f, "map of {block:02x?} at {bw}x{bh} with room for {room}"),
             Request::Channels {
                 options,
                 bw,
@@ -188,28 +162,24 @@ impl fmt::Display for Request {
                 ..
             } => write!(
                 f,
-                "channels of {block:02x?} at {bw}x{bh} with options {options:x?} and room for {room:?}"
+                "channels of {block:02x?} at {bw}x{bh} with options {options:x} and room for {room:?}"
             ),
-            Request::Image {
-                options,
-                shape,
-                room,
-                data,
-            } => write!(
-                f,
-                "image, {shape:?} of {} bytes with options {options:x?} and room for {room}",
-                data.len()
-            ),
-            Request::Steps(Steps {
-                options,
+            Request::Image { shape, room, data } => {
+                write!(
+                    f,
+                    "image, {shape:?} of {} bytes with room for {room}",
+                    data.len()
+                )
+            }
+            Request::Steps {
                 shape,
                 paces,
                 room,
                 data,
                 ..
-            }) => write!(
+            } => write!(
                 f,
-                "steps of {paces:?} blocks, {shape:?} of {} bytes with options {options:x?} and room for {room}",
+                "steps of {paces:?} blocks, {shape:?} of {} bytes with room for {room}",
                 data.len()
             ),
         }
@@ -218,7 +188,7 @@ impl fmt::Display for Request {
 
 /// The blocks of a shape; none where 21 or 30 refuses it, or where they are more than are tried.
 fn blocks(shape: Shape) -> usize {
-    match shape.refusal(0, 0, 0) {
+    match shape.refusal(0, 0) {
         Some(21 | 30) => 0,
         _ if shape.blocks() > MOST_BLOCKS => 0,
         _ => shape.blocks(),
@@ -252,13 +222,12 @@ impl Bytes<'_> {
         self.wide(usize::BITS / 8)
     }
 
-    /// The options of a call, or none.
-    fn options(&mut self) -> Option<u32> {
-        match self.byte() as u8 % CHOICES {
-            WITHOUT => None,
-            CRATE => Some(Reading::Crate.options()),
-            STANDARD => Some(Reading::Standard.options()),
-            _ => Some(self.wide(4) as u32),
+    /// The options of a call: any, or none.
+    fn options(&mut self) -> u32 {
+        if self.any(ANY_OPTIONS) {
+            self.wide(4) as u32
+        } else {
+            0
         }
     }
 
@@ -338,7 +307,6 @@ mod tests {
     #[test]
     fn nothing_is_a_block_of_zeros() {
         let Request::Words {
-            options,
             bw,
             bh,
             room,
@@ -348,28 +316,20 @@ mod tests {
         else {
             panic!("the first function is a block's");
         };
-        assert_eq!((options, bw, bh, room), (None, 4, 4, 16));
+        assert_eq!((bw, bh, room), (4, 4, 16));
         assert_eq!(block, [0; 16]);
     }
 
     #[test]
     fn any_sizes_are_read_as_they_are() {
-        let first = IMAGE | ANY_FOOTPRINT | ANY_SIDES | ANY_ROOM | ANY_LENGTH;
-        let mut input = vec![first, CHOICES + STANDARD];
+        let mut input = vec![IMAGE | ANY_FOOTPRINT | ANY_SIDES | ANY_ROOM | ANY_LENGTH];
         for number in [1u64, 2, u64::MAX, 4] {
             input.extend(number.to_le_bytes());
         }
         input.extend([3, 1, 9, 8, 7]);
-        let Request::Image {
-            options,
-            shape,
-            room,
-            data,
-        } = Request::read(&input)
-        else {
+        let Request::Image { shape, room, data } = Request::read(&input) else {
             panic!("the third function is an image's");
         };
-        assert_eq!(options, Some(1));
         assert_eq!((shape.bw, shape.bh), (1, 2));
         assert_eq!((shape.width, shape.height), (usize::MAX, 4));
         assert_eq!(room, 0x103);
@@ -378,8 +338,8 @@ mod tests {
 
     #[test]
     fn channels_have_options_and_two_rooms() {
-        let first = CHANNELS | ANY_ROOM;
-        let input = [first, ANY_OPTIONS, 0, 0, 0, 0x80, 1, 9, 80, 0, 19, 0, 7];
+        let first = CHANNELS | ANY_OPTIONS | ANY_ROOM;
+        let input = [first, 1, 0, 0, 0, 0x80, 9, 80, 0, 19, 0, 7];
         let Request::Channels {
             options,
             bw,
@@ -391,26 +351,24 @@ mod tests {
         else {
             panic!("the fifth function is that of channels");
         };
-        assert_eq!((options, bw, bh, bit), (Some(1 << 31), 5, 4, 9));
+        assert_eq!((options, bw, bh, bit), (1 << 31, 5, 4, 9));
         assert_eq!(room, (80, 19));
         assert_eq!(block, [7; 16]);
     }
 
     #[test]
     fn data_is_repeated_to_the_length_of_the_image() {
-        let Request::Steps(Steps {
-            options,
+        let Request::Steps {
             shape,
             step,
             places,
             paces,
             room,
             data,
-        }) = Request::read(&[STEPS, CRATE, 1, 30, 20, 6, 6, 1, 0, 254, 255, 0, 1, 2])
+        } = Request::read(&[STEPS, 1, 30, 20, 6, 6, 1, 0, 254, 255, 0, 1, 2])
         else {
             panic!("the fourth function is a step's");
         };
-        assert_eq!(options, Some(0));
         assert_eq!((shape.width, shape.height, shape.blocks()), (11, 5, 6));
         assert_eq!((step.next, step.blocks, places), (6, 7, 4));
         assert_eq!(paces, [1, 255, usize::MAX]);

@@ -1,6 +1,7 @@
 //! libFuzzer, and what it calls: for each input the judge, and to change an input what knows of blocks.
 
 use crate::{seeds, trial};
+use model::blocks::Kind;
 use model::random::Random;
 use model::FOOTPRINTS;
 use std::env;
@@ -35,12 +36,12 @@ extern "C" fn target(start: *const u8, length: usize) -> c_int {
     0
 }
 
-/// Puts blocks of any kind in the place of an input's last ones. Its last bytes are its blocks, and its third is mostly a footprint.
+/// Puts blocks of any kind in the place of an input's last ones. Its last bytes are its blocks, and its second is mostly a footprint.
 fn renew(input: &mut [u8], random: &mut Random) {
-    let place = usize::from(input[2]) % FOOTPRINTS.len();
+    let place = usize::from(input[1]) % FOOTPRINTS.len();
     let count = 1 + random.below(input.len() / 16);
     for old in input.rchunks_exact_mut(16).take(count) {
-        let kind = seeds::any_kind(random);
+        let kind = Kind::of(random.number());
         old.copy_from_slice(&seeds::block(kind, place, random));
     }
 }

@@ -1,5 +1,5 @@
-//! A coverage-guided fuzz target over the C surface: the bytes of an input choose a function, its options, its sizes and its blocks, and the
-//! archive is held to the original, to the model of the standard's reading and to the rules of docs/SCOPE.md. A difference ends the program, and libFuzzer keeps the input.
+//! A coverage-guided fuzz target over the C surface: the bytes of an input choose a function, its sizes and its blocks, and the archive
+//! is held to the original and to the rules of docs/SCOPE.md. A difference ends the program, and libFuzzer keeps the input.
 //!
 //! `fuzz seeds FOLDER` writes inputs to start from. All other words are libFuzzer's: its options, and folders of inputs, or files to
 //! be tried alone. `tools/fuzz` builds the program, with the archive and itself instrumented, and runs it. Built without libFuzzer, it

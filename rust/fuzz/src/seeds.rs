@@ -1,5 +1,4 @@
-//! Inputs to start from: blocks of all kinds at every footprint, their maps and channels, images of them, in both readings, and options
-//! and sizes that are refused.
+//! Inputs to start from: blocks of all kinds at every footprint, their maps and channels, images of them, and sizes that are refused.
 
 use crate::input::*;
 use model::blocks::{Kind, Legal};
@@ -23,38 +22,22 @@ pub fn block(kind: Kind, place: usize, random: &mut Random) -> Block {
     kind.block(random, FOOTPRINTS[place], &LEGAL[place])
 }
 
-/// All kinds of blocks.
-fn kinds() -> impl Iterator<Item = Kind> {
-    let others = [Kind::Hdr, Kind::VoidEdges, Kind::Offsets];
-    Kind::ALL.into_iter().chain(others)
-}
-
 /// The blocks of a footprint: one of each group of legal configurations, and some of each kind.
 fn blocks(place: usize, random: &mut Random) -> Vec<Block> {
     let groups = LEGAL[place].of_each_group(random);
     let mut all: Vec<_> = groups.iter().map(|c| c.fill(random)).collect();
-    for kind in kinds() {
+    for kind in Kind::ALL.into_iter().chain([Kind::Hdr]) {
         all.extend((0..OF_A_KIND).map(|_| block(kind, place, random)));
     }
     all
 }
 
-/// A block's words or its channels with exactly their room, or its map with a place more, by one of the options that are taken.
+/// A block's words or its channels with exactly their room, or its map with a place more.
 fn of_block(number: usize, place: u8, block: &Block) -> Vec<u8> {
-    let options = [WITHOUT, CRATE, STANDARD][number / 4 % 3];
     match number % 4 {
-        0 => [&[MAP, options, place, 129], &block[..]].concat(),
-        1 => [&[CHANNELS, options, place, number as u8, 0, 0], &block[..]].concat(),
-        _ => [&[WORDS, options, place, number as u8, 0], &block[..]].concat(),
-    }
-}
-
-/// A kind as runs in either reading have it.
-#[cfg(libfuzzer)]
-pub fn any_kind(random: &mut Random) -> Kind {
-    match random.below(2) {
-        0 => Kind::of(random.number()),
-        _ => Kind::for_standard(random.number()),
+        0 => [&[MAP, place, 129], &block[..]].concat(),
+        1 => [&[CHANNELS, place, number as u8, 0, 0], &block[..]].concat(),
+        _ => [&[WORDS, place, number as u8, 0], &block[..]].concat(),
     }
 }
 
@@ -62,31 +45,22 @@ pub fn any_kind(random: &mut Random) -> Kind {
 #[cfg(libfuzzer)]
 pub fn any_block(random: &mut Random) -> Vec<u8> {
     let place = random.below(FOOTPRINTS.len());
-    let block = block(any_kind(random), place, random);
+    let block = block(Kind::of(random.number()), place, random);
     of_block(random.below(256), place as u8, &block)
 }
 
-/// Images of blocks, at once and in steps, by each of the options that are taken: of one block and of more, clipped or not.
+/// Images of blocks, at once and in steps: of one block and of more, clipped or not.
 fn of_images(place: u8, blocks: &[Block], random: &mut Random) -> Vec<Vec<u8>> {
-    let options = [WITHOUT, CRATE, STANDARD].into_iter();
-    options
-        .flat_map(|options| of_images_by(options, place, blocks, random))
-        .collect()
-}
-
-fn of_images_by(options: u8, place: u8, blocks: &[Block], random: &mut Random) -> Vec<Vec<u8>> {
     let mut all = Vec::new();
     for [width, height] in [[0, 0], [3, 3], [12, 10], [47, 39]] {
         let data = [(); 6]
             .map(|()| blocks[random.below(blocks.len())])
             .concat();
-        let sizes = [IMAGE, options, place, width, height, 0];
-        all.push([&sizes, &data[..]].concat());
+        all.push([&[IMAGE, place, width, height, 0], &data[..]].concat());
         let step = [1, 2, 0];
         let paces = [0, 2, 6];
         let room = [130];
-        let first = [STEPS, options, place, width, height];
-        let sizes = [&first, &step[..], &paces, &room].concat();
+        let sizes = [&[STEPS, place, width, height], &step[..], &paces, &room].concat();
         all.push([sizes, data].concat());
     }
     all
@@ -107,7 +81,7 @@ fn of_any_sizes(place: u8, block: &Block) -> Vec<Vec<u8>> {
         (max, max),
     ] {
         for function in [WORDS, MAP, IMAGE, STEPS, CHANNELS] {
-            let first = [function | ANY_FOOTPRINT, WITHOUT];
+            let first = [function | ANY_FOOTPRINT];
             all.push([&first[..], &pair(footprint), &[0; 4], block].concat());
         }
     }
@@ -120,42 +94,33 @@ fn of_any_sizes(place: u8, block: &Block) -> Vec<Vec<u8>> {
         (1, 1 | high),
         (max, max),
     ] {
-        all.push(
-            [
-                &[IMAGE | ANY_SIDES, CRATE, place][..],
-                &pair(sides),
-                &[0],
-                block,
-            ]
-            .concat(),
-        );
+        all.push([&[IMAGE | ANY_SIDES, place][..], &pair(sides), &[0], block].concat());
     }
     for step in [(0, 1), (0, 0), (1, max), (2, 1), (max, max)] {
         for places in [2, 3] {
-            let sizes = [&[STEPS | ANY_STEP, STANDARD, place, 0, 0][..], &pair(step)].concat();
+            let sizes = [&[STEPS | ANY_STEP, place, 0, 0][..], &pair(step)].concat();
             all.push([&sizes[..], &[places, 0, 0, 0, 0], block].concat());
         }
     }
     let texels = (bw * bh) as u8;
     for room in [0, 8, 9, texels - 1, texels] {
-        all.push([&[WORDS | ANY_ROOM, CRATE, place, 0, room, 0], &block[..]].concat());
-        all.push([&[MAP | ANY_ROOM, STANDARD, place, room, 0], &block[..]].concat());
+        all.push([&[WORDS | ANY_ROOM, place, 0, room, 0], &block[..]].concat());
+        all.push([&[MAP | ANY_ROOM, place, room, 0], &block[..]].concat());
         let sides = [bw as u8 - 1, bh as u8 - 1];
-        let image = [&[IMAGE | ANY_ROOM, WITHOUT, place][..], &sides, &[room, 0]].concat();
+        let image = [&[IMAGE | ANY_ROOM, place][..], &sides, &[room, 0]].concat();
         all.push([&image[..], block].concat());
     }
     all.extend(of_channels(place, block));
-    all.extend(of_options(place, block));
     for length in 0..=16 {
         let block = &block[..length];
-        all.push([&[CHANNELS | ANY_LENGTH, STANDARD, place, 0, 0, 0], block].concat());
-        all.push([&[WORDS | ANY_LENGTH, WITHOUT, place, 0, 0], block, &[0]].concat());
-        all.push([&[IMAGE | ANY_LENGTH, CRATE, place, 0, 0, 0], block].concat());
+        all.push([&[CHANNELS | ANY_LENGTH, place, 0, 0, 0], block].concat());
+        all.push([&[WORDS | ANY_LENGTH, place, 0, 0], block, &[0]].concat());
+        all.push([&[IMAGE | ANY_LENGTH, place, 0, 0, 0], block].concat());
     }
     all
 }
 
-/// A block's channels with rooms at their limits and below them.
+/// A block's channels with rooms at their limits and below them, and with options.
 fn of_channels(place: u8, block: &Block) -> Vec<Vec<u8>> {
     let (bw, bh) = FOOTPRINTS[usize::from(place)];
     let texels = (bw * bh) as u16;
@@ -163,21 +128,13 @@ fn of_channels(place: u8, block: &Block) -> Vec<Vec<u8>> {
     for numbers in [0, texels, 4 * texels - 1, 4 * texels] {
         for floats in [0, texels - 1, texels] {
             let rooms = [numbers, floats].map(u16::to_le_bytes).concat();
-            all.push([&[CHANNELS | ANY_ROOM, CRATE, place, 0], &rooms[..], block].concat());
+            all.push([&[CHANNELS | ANY_ROOM, place, 0], &rooms[..], block].concat());
         }
     }
-    all
-}
-
-/// Each function with options that are taken and with others.
-fn of_options(place: u8, block: &Block) -> Vec<Vec<u8>> {
-    let mut all = Vec::new();
-    for options in [0u32, 1, 2, 3, 4, 8, 1 << 31, u32::MAX] {
-        for function in [WORDS, MAP, IMAGE, STEPS, CHANNELS] {
-            let options = options.to_le_bytes();
-            let first = [function, ANY_OPTIONS];
-            all.push([&first[..], &options, &[place, 0, 0, 0], block].concat());
-        }
+    for options in [0u32, 1, 2, 4, 8, 1 << 31, u32::MAX] {
+        let first = [CHANNELS | ANY_OPTIONS, place];
+        let options = options.to_le_bytes();
+        all.push([&first[..], &options, &[0, 0, 0], block].concat());
     }
     all
 }

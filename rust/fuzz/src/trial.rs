@@ -1,7 +1,7 @@
 //! What an input asks for, called for and judged.
 
 use crate::fence::Fence;
-use crate::input::{Request, Steps};
+use crate::input::Request;
 use judge::block::{Call, NUMBERS};
 use judge::channels::Outputs;
 use judge::image::{self, Image, Moved, Step, MOVED};
@@ -32,27 +32,24 @@ impl Request {
     fn judge(&self, fence: &mut Fence, random: &mut Random) -> Result<(), String> {
         match *self {
             Request::Words {
-                options,
                 bw,
                 bh,
                 bit,
                 room,
                 ref block,
-            } => words(
-                call(options, fence.hold(block), (bw, bh)),
-                room,
-                bit,
-                random,
-            ),
+            } => {
+                let block = fence.hold(block);
+                words(Call { block, bw, bh }, room, bit, random)
+            }
             Request::Map {
-                options,
                 bw,
                 bh,
                 room,
                 ref block,
             } => {
-                let call = call(options, fence.hold(block), (bw, bh));
-                call.map(&mut Canvas::new(room, random)).map(|_| ())
+                let block = fence.hold(block);
+                let map = &mut Canvas::new(room, random);
+                Call { block, bw, bh }.map(map).map(|_| ())
             }
             Request::Channels {
                 options,
@@ -62,50 +59,37 @@ impl Request {
                 room,
                 ref block,
             } => {
-                let call = call(options, fence.hold(block), (bw, bh));
-                channels(call, &mut Outputs::new(room, random), bit)
+                let block = fence.hold(block);
+                let outputs = &mut Outputs::new(room, random);
+                channels(Call { block, bw, bh }, options, outputs, bit)
             }
             Request::Image {
-                options,
                 shape,
                 room,
                 ref data,
+            } => whole(fence.hold(data), shape, &mut Canvas::new(room, random)),
+            Request::Steps {
+                shape,
+                step,
+                places,
+                paces,
+                room,
+                ref data,
             } => {
+                let data = fence.hold(data);
                 let canvas = &mut Canvas::new(room, random);
-                whole(options, fence.hold(data), shape, canvas)
-            }
-            Request::Steps(ref steps) => steps.judge(fence, random),
-        }
-    }
-}
-
-impl Steps {
-    /// Holds the step, and where it is accepted all of the image's, to what they must answer and write.
-    fn judge(&self, fence: &mut Fence, random: &mut Random) -> Result<(), String> {
-        let (options, shape, step, room) = (self.options, self.shape, self.step, self.room);
-        let data = fence.hold(&self.data);
-        let canvas = &mut Canvas::new(room, random);
-        let moved = &mut Moved::new(self.places, random);
-        let Step { next, blocks } = step;
-        let number = options.unwrap_or(0);
-        match shape.step_refusal(number, data.len(), room, self.places, next, blocks) {
-            Some(answer) => step.refused(options, data, shape, answer, canvas, moved),
-            None => {
-                let image = &Image::new(options, shape, data)?;
-                image.step(step, canvas, moved)?;
-                let canvas = &mut Canvas::new(room, random);
-                all_steps(image, &self.paces, canvas, random)
+                let moved = &mut Moved::new(places, random);
+                let Step { next, blocks } = step;
+                match shape.step_refusal(data.len(), room, places, next, blocks) {
+                    Some(answer) => step.refused(data, shape, answer, canvas, moved),
+                    None => {
+                        let image = &Image::new(shape, data)?;
+                        image.step(step, canvas, moved)?;
+                        all_steps(image, &paces, &mut Canvas::new(room, random), random)
+                    }
+                }
             }
         }
-    }
-}
-
-fn call(options: Option<u32>, block: &[u8], (bw, bh): (usize, usize)) -> Call<'_> {
-    Call {
-        options,
-        block,
-        bw,
-        bh,
     }
 }
 
@@ -129,8 +113,8 @@ fn changed(call: Call, choice: usize) -> Option<usize> {
     Some(unmapped.start + bit)
 }
 
-fn channels(call: Call, outputs: &mut Outputs, bit: usize) -> Result<(), String> {
-    if call.channels(outputs)? != 0 {
+fn channels(call: Call, options: u32, outputs: &mut Outputs, bit: usize) -> Result<(), String> {
+    if call.channels(options, outputs)? != 0 {
         return Ok(());
     }
     match changed(call, bit) {
@@ -139,15 +123,10 @@ fn channels(call: Call, outputs: &mut Outputs, bit: usize) -> Result<(), String>
     }
 }
 
-fn whole(
-    options: Option<u32>,
-    data: &[u8],
-    shape: Shape,
-    canvas: &mut Canvas,
-) -> Result<(), String> {
-    match shape.refusal(options.unwrap_or(0), data.len(), canvas.room()) {
-        Some(answer) => image::refused(options, data, shape, answer, canvas),
-        None => Image::new(options, shape, data)?.whole(canvas),
+fn whole(data: &[u8], shape: Shape, canvas: &mut Canvas) -> Result<(), String> {
+    match shape.refusal(data.len(), canvas.room()) {
+        Some(answer) => image::refused(data, shape, answer, canvas),
+        None => Image::new(shape, data)?.whole(canvas),
     }
 }
 

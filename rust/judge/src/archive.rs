@@ -1,46 +1,41 @@
-//! The functions of the archive, over slices. Each takes the options of the call, or none: then the function without options is called,
-//! which stands for 0.
+//! The functions of the archive, over slices.
 
 use astc::raw::{
-    astc_block_channels, astc_block_map, astc_block_map_with, astc_decode_block,
-    astc_decode_block_with, astc_decode_image, astc_decode_image_with, astc_image_step,
-    astc_image_step_with,
+    astc_block_channels, astc_block_map, astc_decode_block, astc_decode_image, astc_image_step,
 };
 use model::Shape;
 
 /// Paints a block; the answer.
-pub fn decode_block(
-    options: Option<u32>,
-    block: &[u8],
-    bw: usize,
-    bh: usize,
-    out: &mut [u32],
-) -> u32 {
-    let (bytes, len) = (block.as_ptr(), block.len());
-    let (words, room) = (out.as_mut_ptr(), out.len());
+pub fn decode_block(block: &[u8], bw: usize, bh: usize, out: &mut [u32]) -> u32 {
     // SAFETY: both parts are as long as they are said to be, and only `out` is written.
     unsafe {
-        match options {
-            None => astc_decode_block(bytes, len, bw, bh, words, room),
-            Some(options) => astc_decode_block_with(options, bytes, len, bw, bh, words, room),
-        }
+        astc_decode_block(
+            block.as_ptr(),
+            block.len(),
+            bw,
+            bh,
+            out.as_mut_ptr(),
+            out.len(),
+        )
     }
 }
 
 /// Writes the map of a block; the answer.
-pub fn block_map(options: Option<u32>, block: &[u8], bw: usize, bh: usize, map: &mut [u32]) -> u32 {
-    let (bytes, len) = (block.as_ptr(), block.len());
-    let (numbers, room) = (map.as_mut_ptr(), map.len());
+pub fn block_map(block: &[u8], bw: usize, bh: usize, map: &mut [u32]) -> u32 {
     // SAFETY: both parts are as long as they are said to be, and only `map` is written.
     unsafe {
-        match options {
-            None => astc_block_map(bytes, len, bw, bh, numbers, room),
-            Some(options) => astc_block_map_with(options, bytes, len, bw, bh, numbers, room),
-        }
+        astc_block_map(
+            block.as_ptr(),
+            block.len(),
+            bw,
+            bh,
+            map.as_mut_ptr(),
+            map.len(),
+        )
     }
 }
 
-/// Writes the channels of a block, and which of them are floats; the answer. There is no such function without options.
+/// Writes the channels of a block, and which of them are floats; the answer.
 pub fn block_channels(
     options: u32,
     block: &[u8],
@@ -66,54 +61,46 @@ pub fn block_channels(
 }
 
 /// Paints an image; the answer.
-pub fn decode_image(options: Option<u32>, data: &[u8], shape: Shape, out: &mut [u32]) -> u32 {
-    let Shape {
-        width,
-        height,
-        bw,
-        bh,
-    } = shape;
-    let (bytes, len) = (data.as_ptr(), data.len());
-    let (words, room) = (out.as_mut_ptr(), out.len());
+pub fn decode_image(data: &[u8], shape: Shape, out: &mut [u32]) -> u32 {
     // SAFETY: both parts are as long as they are said to be, and only `out` is written.
     unsafe {
-        match options {
-            None => astc_decode_image(bytes, len, width, height, bw, bh, words, room),
-            Some(options) => {
-                astc_decode_image_with(options, bytes, len, width, height, bw, bh, words, room)
-            }
-        }
+        astc_decode_image(
+            data.as_ptr(),
+            data.len(),
+            shape.width,
+            shape.height,
+            shape.bw,
+            shape.bh,
+            out.as_mut_ptr(),
+            out.len(),
+        )
     }
 }
 
 /// Paints at most so many blocks of an image from block `next` on, and writes where that leads and what was painted; the answer.
 pub fn image_step(
-    options: Option<u32>,
     data: &[u8],
     shape: Shape,
-    (next, blocks): (usize, usize),
+    next: usize,
+    blocks: usize,
     out: &mut [u32],
     moved: &mut [u64],
 ) -> u32 {
-    let Shape {
-        width,
-        height,
-        bw,
-        bh,
-    } = shape;
-    let (bytes, len) = (data.as_ptr(), data.len());
-    let (words, room) = (out.as_mut_ptr(), out.len());
-    let (numbers, places) = (moved.as_mut_ptr(), moved.len());
     // SAFETY: the three parts are as long as they are said to be and lie apart, and only `out` and `moved` are written.
     unsafe {
-        match options {
-            None => astc_image_step(
-                bytes, len, width, height, bw, bh, next, blocks, words, room, numbers, places,
-            ),
-            Some(options) => astc_image_step_with(
-                options, bytes, len, width, height, bw, bh, next, blocks, words, room, numbers,
-                places,
-            ),
-        }
+        astc_image_step(
+            data.as_ptr(),
+            data.len(),
+            shape.width,
+            shape.height,
+            shape.bw,
+            shape.bh,
+            next,
+            blocks,
+            out.as_mut_ptr(),
+            out.len(),
+            moved.as_mut_ptr(),
+            moved.len(),
+        )
     }
 }

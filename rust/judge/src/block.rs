@@ -2,29 +2,24 @@
 
 use crate::archive;
 use crate::canvas::{same_answer, Canvas};
-use crate::options::{self, options};
 use crate::sample::Sample;
-use model::random::Random;
-use model::{blocks, refusal, Reading};
+use model::{blocks, refusal};
 use std::ops::Range;
 
 /// The numbers of a map.
 pub const NUMBERS: usize = 9;
 
-/// The options as they are passed, or none for the function without them; a block of any length, and the footprint, of any sizes.
+/// A block as it is passed, of any length, and the footprint, of any sizes.
 #[derive(Clone, Copy)]
 pub struct Call<'a> {
-    pub options: Option<u32>,
     pub block: &'a [u8],
     pub bw: usize,
     pub bh: usize,
 }
 
 impl<'a> Call<'a> {
-    /// The call for a sample, by options that choose its reading.
-    pub fn of(sample: &'a Sample, random: &mut Random) -> Self {
+    pub fn of(sample: &'a Sample) -> Self {
         Call {
-            options: options(sample.reading, random),
             block: &sample.block,
             bw: sample.bw,
             bh: sample.bh,
@@ -36,24 +31,18 @@ impl<'a> Call<'a> {
         self.bw.saturating_mul(self.bh)
     }
 
-    /// The refusal by options and sizes alone, where an output of `room` places is to hold `wanted` numbers.
+    /// The refusal by the sizes alone, where an output of `room` places is to hold `wanted` numbers.
     pub fn refusal(self, room: usize, wanted: usize) -> Option<u32> {
-        let options = options::number(self.options);
-        refusal(options, self.block.len(), (self.bw, self.bh), room, wanted)
+        refusal(self.block.len(), self.bw, self.bh, room, wanted)
     }
 
-    /// The reading of a call whose options are not refused.
-    fn reading(self) -> Reading {
-        options::reading(self.options).expect("23 refuses other options")
-    }
-
-    /// The block of a call that neither options nor sizes refuse.
+    /// The block of a call that no size refuses.
     pub(crate) fn sample(self) -> Sample {
         let block = self.block.try_into().expect("20 refuses other lengths");
-        Sample::new(self.reading(), block, (self.bw, self.bh))
+        Sample::new(block, (self.bw, self.bh))
     }
 
-    /// Has the block painted, by the rules of docs/SCOPE.md, the original and the model; its answer.
+    /// Has the block painted, by the rules of docs/SCOPE.md and the original; its answer.
     pub fn words(self, canvas: &mut Canvas) -> Result<u32, String> {
         let answer = match self.refusal(canvas.room(), self.texels()) {
             Some(answer) => answer,
@@ -68,7 +57,7 @@ impl<'a> Call<'a> {
     }
 
     fn paint(self, canvas: &mut Canvas, answer: u32) -> Result<(), String> {
-        let ours = archive::decode_block(self.options, self.block, self.bw, self.bh, canvas.out());
+        let ours = archive::decode_block(self.block, self.bw, self.bh, canvas.out());
         same_answer("answer", ours, answer)?;
         canvas.compare("word")
     }
@@ -79,7 +68,7 @@ impl<'a> Call<'a> {
             Some(answer) => answer,
             None => {
                 let sample = self.sample();
-                let map = sample.reading.map(&sample.block, sample.bw, sample.bh);
+                let map = model::map(&sample.block, sample.bw, sample.bh);
                 canvas.expected()[..NUMBERS].copy_from_slice(&map);
                 sample.answer.into()
             }
@@ -96,18 +85,18 @@ impl<'a> Call<'a> {
     }
 
     fn write_map(self, canvas: &mut Canvas, answer: u32) -> Result<(), String> {
-        let ours = archive::block_map(self.options, self.block, self.bw, self.bh, canvas.out());
+        let ours = archive::block_map(self.block, self.bw, self.bh, canvas.out());
         same_answer("answer of the map", ours, answer)?;
         canvas.compare("number of the map")
     }
 
     /// The unmapped bits of a legal block.
     pub fn unmapped(self) -> Range<usize> {
-        let map = self.reading().map(self.block, self.bw, self.bh);
+        let map = model::map(self.block, self.bw, self.bh);
         (map[3] + map[4]) as usize..map[5] as usize
     }
 
-    /// The block of a call that neither options nor sizes refuse, with a bit changed.
+    /// The block of a call that no size refuses, with a bit changed.
     pub(crate) fn flipped(self, bit: usize) -> [u8; 16] {
         blocks::flipped(self.sample().block, bit)
     }

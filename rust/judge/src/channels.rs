@@ -3,7 +3,6 @@
 use crate::archive;
 use crate::block::Call;
 use crate::canvas::{same_answer, Canvas};
-use crate::options;
 use model::random::Random;
 use model::{channels_refusal, Texel, CHANNELS};
 
@@ -54,27 +53,30 @@ impl Outputs {
 
 impl Call<'_> {
     /// The refusal by options and sizes alone, with outputs of so much room.
-    pub fn channels_refusal(self, room: (usize, usize)) -> Option<u32> {
-        let options = options::number(self.options);
+    pub fn channels_refusal(self, options: u32, room: (usize, usize)) -> Option<u32> {
         channels_refusal(options, self.block.len(), (self.bw, self.bh), room)
     }
 
     /// Has the block's channels written, by the model's rules and the original, and holds the words that they come to to those that
     /// the archive paints; its answer.
-    pub fn channels(self, outputs: &mut Outputs) -> Result<u32, String> {
-        if let Some(answer) = self.channels_refusal(outputs.room()) {
-            self.write_channels(outputs, answer)?;
+    pub fn channels(self, options: u32, outputs: &mut Outputs) -> Result<u32, String> {
+        if let Some(answer) = self.channels_refusal(options, outputs.room()) {
+            self.write_channels(options, outputs, answer)?;
             return Ok(answer);
         }
         let sample = self.sample();
         outputs.expect(&sample.channels()?);
-        self.write_channels(outputs, sample.answer.into())?;
+        self.write_channels(options, outputs, sample.answer.into())?;
         self.same_words(outputs)?;
         Ok(sample.answer.into())
     }
 
-    fn write_channels(self, outputs: &mut Outputs, answer: u32) -> Result<(), String> {
-        let options = options::number(self.options);
+    fn write_channels(
+        self,
+        options: u32,
+        outputs: &mut Outputs,
+        answer: u32,
+    ) -> Result<(), String> {
         let (numbers, floats) = (outputs.numbers.out(), outputs.floats.out());
         let ours = archive::block_channels(options, self.block, self.bw, self.bh, numbers, floats);
         same_answer("answer of the channels", ours, answer)?;
@@ -84,7 +86,7 @@ impl Call<'_> {
     /// The words of the channels, and those that the archive paints.
     fn same_words(self, outputs: &mut Outputs) -> Result<(), String> {
         let mut words = vec![0; self.texels()];
-        archive::decode_block(self.options, self.block, self.bw, self.bh, &mut words);
+        archive::decode_block(self.block, self.bw, self.bh, &mut words);
         for (i, (texel, word)) in outputs.texels().zip(words).enumerate() {
             let reduced = texel.word();
             if reduced != word {
@@ -105,7 +107,7 @@ impl Call<'_> {
         };
         outputs.numbers.unwrite();
         outputs.floats.unwrite();
-        call.write_channels(outputs, 0)
+        call.write_channels(0, outputs, 0)
             .map_err(|difference| format!("with the unmapped bit {bit} changed, {difference}"))
     }
 }

@@ -1,9 +1,8 @@
-//! Whole images and images in steps: the archive against images that the original and the model paint, block by block, against those
-//! that the original paints whole, and against the rules of docs/SCOPE.md on options, sizes and cursors.
+//! Whole images and images in steps: the archive against images that the original paints, block by block and whole, and against
+//! the rules of docs/SCOPE.md on sizes and cursors.
 
 use crate::archive;
 use crate::canvas::{marks, same_answer, Canvas, AROUND};
-use crate::options;
 use crate::sample::Sample;
 use model::random::Random;
 use model::Shape;
@@ -19,22 +18,19 @@ const PLACES: usize = AROUND + MOVED + AROUND;
 
 /// An image that is to be painted, and what it must become.
 pub struct Image<'a> {
-    options: Option<u32>,
     shape: Shape,
     data: &'a [u8],
     /// The answers of its blocks.
     answers: Vec<u8>,
-    /// Whether the original alone judges all of its blocks.
+    /// Whether the original judges all of its blocks.
     judged: bool,
     pixels: Vec<u32>,
 }
 
 impl<'a> Image<'a> {
-    /// An image that neither its options, or none for the functions without them, nor its sizes refuse, composed block by block.
-    pub fn new(options: Option<u32>, shape: Shape, data: &'a [u8]) -> Result<Self, String> {
-        let reading = options::reading(options).expect("23 refuses other options");
+    /// An image that no size refuses, composed block by block.
+    pub fn new(shape: Shape, data: &'a [u8]) -> Result<Self, String> {
         let mut image = Image {
-            options,
             shape,
             data,
             answers: Vec::with_capacity(shape.blocks()),
@@ -43,7 +39,7 @@ impl<'a> Image<'a> {
         };
         for (number, block) in data.chunks_exact(16).enumerate() {
             let block = block.try_into().expect("a chunk has sixteen bytes");
-            let sample = Sample::new(reading, block, (shape.bw, shape.bh));
+            let sample = Sample::new(block, (shape.bw, shape.bh));
             image.answers.push(sample.answer);
             image.judged &= sample.judged();
             let mut texels = [0; 144];
@@ -64,12 +60,12 @@ impl<'a> Image<'a> {
         self.pixels.len()
     }
 
-    /// Whether the original alone judges all of its blocks.
+    /// Whether the original judges all of its blocks.
     pub fn judged(&self) -> bool {
         self.judged
     }
 
-    /// How many of these blocks break a rule: they answer 10 to 16, and 17 in the standard's reading.
+    /// How many of these blocks answer 10 to 16.
     pub fn bad(&self, blocks: Range<usize>) -> usize {
         let answers = &self.answers[blocks];
         answers.iter().filter(|&&answer| answer >= 10).count()
@@ -101,7 +97,7 @@ impl<'a> Image<'a> {
 
     /// Has the image painted at once, and holds it to the original's whole image too where it judges all blocks.
     pub fn whole(&self, canvas: &mut Canvas) -> Result<(), String> {
-        let answer = archive::decode_image(self.options, self.data, self.shape, canvas.out());
+        let answer = archive::decode_image(self.data, self.shape, canvas.out());
         same_answer("answer", answer, 0)?;
         self.paint(0..self.blocks(), canvas.expected());
         canvas.compare("word")?;
@@ -125,8 +121,7 @@ impl<'a> Image<'a> {
         let end = step.next + painted;
         self.paint(step.next..end, canvas.expected());
         let numbers = [end, painted, self.bad(step.next..end)];
-        let call = (self.options, self.data, self.shape);
-        step.call(call, 0, canvas, moved, Some(numbers))?;
+        step.call((self.data, self.shape), 0, canvas, moved, Some(numbers))?;
         Ok(end)
     }
 }
@@ -185,21 +180,14 @@ impl Step {
     /// Calls for the step, and holds answer, numbers and words to what is expected.
     fn call(
         self,
-        (options, data, shape): (Option<u32>, &[u8], Shape),
+        (data, shape): (&[u8], Shape),
         answer: u32,
         canvas: &mut Canvas,
         moved: &mut Moved,
         numbers: Option<[usize; MOVED]>,
     ) -> Result<(), String> {
         let Step { next, blocks } = self;
-        let ours = archive::image_step(
-            options,
-            data,
-            shape,
-            (next, blocks),
-            canvas.out(),
-            moved.out(),
-        );
+        let ours = archive::image_step(data, shape, next, blocks, canvas.out(), moved.out());
         same_answer("answer", ours, answer)
             .and_then(|()| moved.compare(numbers))
             .and_then(|()| canvas.compare("word"))
@@ -213,7 +201,6 @@ impl Step {
     /// zeros.
     pub fn refused(
         self,
-        options: Option<u32>,
         data: &[u8],
         shape: Shape,
         answer: u32,
@@ -221,19 +208,13 @@ impl Step {
         moved: &mut Moved,
     ) -> Result<(), String> {
         let numbers = (moved.places >= MOVED).then_some([self.next, 0, 0]);
-        self.call((options, data, shape), answer, canvas, moved, numbers)
+        self.call((data, shape), answer, canvas, moved, numbers)
     }
 }
 
 /// An image that is refused by this answer: an output that stays.
-pub fn refused(
-    options: Option<u32>,
-    data: &[u8],
-    shape: Shape,
-    answer: u32,
-    canvas: &mut Canvas,
-) -> Result<(), String> {
-    let ours = archive::decode_image(options, data, shape, canvas.out());
+pub fn refused(data: &[u8], shape: Shape, answer: u32, canvas: &mut Canvas) -> Result<(), String> {
+    let ours = archive::decode_image(data, shape, canvas.out());
     same_answer("answer", ours, answer)?;
     canvas.compare("word")
 }

@@ -1,7 +1,7 @@
 //! Sources of blocks: what decides a block's answer, held fixed; and blocks of several kinds.
 
 use crate::random::Random;
-use crate::{answer, Layout, HDR_MODES, OFFSET_MODES};
+use crate::{answer, Layout, HDR_MODES};
 use std::collections::BTreeMap;
 
 /// The bits that decide a block's answer, with a value: first bits, partitions, base, and classes of endpoint modes.
@@ -108,67 +108,6 @@ pub fn void(random: &mut Random) -> [u8; 16] {
     block
 }
 
-/// A void block of 16-bit zeros with these bits 10 and 11 and these extents: low s, high s, low t and high t.
-pub fn void_of(bits_10_and_11: usize, extents: [usize; 4]) -> [u8; 16] {
-    let extents = extents.iter().rev().fold(0, |all, e| all << 13 | e);
-    let first = 0x1fc | bits_10_and_11 << 10 | extents << 12;
-    (first as u128).to_le_bytes()
-}
-
-/// Four extents at the edges of the rule on them: all ones, all but one; pairs that are equal, apart by one or any, either way round.
-fn extents(random: &mut Random) -> [usize; 4] {
-    const ONES: usize = 0x1fff;
-    let mut pair = || {
-        let (any, other) = (random.below(ONES), random.below(ONES + 1));
-        match random.below(8) {
-            0 => [ONES, ONES],
-            1 => [any, any],
-            2 => [any + 1, any],
-            3 => [any, any + 1],
-            4 => [0, ONES],
-            5 => [ONES, other],
-            _ => [any.min(other), any.max(other)],
-        }
-    };
-    let ([low_s, high_s], [low_t, high_t]) = (pair(), pair());
-    match random.below(4) {
-        0 => [ONES; 4],
-        _ => [low_s, high_s, low_t, high_t],
-    }
-}
-
-/// A void block at the edges of the standard's rules on its extents: bits 10 and 11 mostly set, and in some blocks one of the bits 10
-/// to 63 changed. Its colour is that of any void block.
-fn void_at_edges(random: &mut Random) -> [u8; 16] {
-    let two = if random.below(8) == 0 {
-        random.below(4)
-    } else {
-        3
-    };
-    let mut block = void(random);
-    let halves = block[1] & 2;
-    block[..8].copy_from_slice(&void_of(two, extents(random))[..8]);
-    block[1] |= halves;
-    if random.below(4) == 0 {
-        return flipped(block, 10 + random.below(54));
-    }
-    block
-}
-
-/// A block of a configuration, drawn some times until a partition of it has an endpoint mode with signed offsets. About half of all
-/// offsets are negative.
-fn with_offsets(random: &mut Random, legal: &Legal) -> [u8; 16] {
-    let mut block = legal.pick(random).fill(random);
-    for _ in 0..64 {
-        let modes = Layout::of(&block).modes(&block);
-        if modes.iter().any(|mode| OFFSET_MODES.contains(mode)) {
-            break;
-        }
-        block = legal.pick(random).fill(random);
-    }
-    block
-}
-
 /// A block of a random mode, with its low bits as a legal block may have them.
 pub fn likely(random: &mut Random, bw: usize, bh: usize) -> [u8; 16] {
     let mut block = random.block();
@@ -236,8 +175,6 @@ pub enum Kind {
     Damaged,
     Void,
     Hdr,
-    VoidEdges,
-    Offsets,
 }
 
 impl Kind {
@@ -261,23 +198,6 @@ impl Kind {
         *Kind::ALL.get((number % 8) as usize).unwrap_or(&Kind::Hdr)
     }
 
-    /// The kinds of a run in the standard's reading: void blocks at the edges of the rules on them, and offsets, among others.
-    const OF_STANDARD: [Kind; 8] = [
-        Kind::Any,
-        Kind::Sparse,
-        Kind::Legal,
-        Kind::Damaged,
-        Kind::Void,
-        Kind::Hdr,
-        Kind::VoidEdges,
-        Kind::Offsets,
-    ];
-
-    /// The kind of the block of this number in a run in the standard's reading.
-    pub fn for_standard(number: u64) -> Kind {
-        Kind::OF_STANDARD[(number % 8) as usize]
-    }
-
     pub fn name(self) -> &'static str {
         match self {
             Kind::Any => "any bits",
@@ -287,8 +207,6 @@ impl Kind {
             Kind::Damaged => "legal with one bit changed",
             Kind::Void => "void, with special halves",
             Kind::Hdr => "legal, mostly HDR in all partitions",
-            Kind::VoidEdges => "void, at the edges of the rules on extents",
-            Kind::Offsets => "legal, with an endpoint mode of signed offsets",
         }
     }
 
@@ -305,8 +223,6 @@ impl Kind {
             }
             Kind::Void => void(random),
             Kind::Hdr => hdr(random, legal),
-            Kind::VoidEdges => void_at_edges(random),
-            Kind::Offsets => with_offsets(random, legal),
         }
     }
 }
@@ -314,7 +230,6 @@ impl Kind {
 #[cfg(test)]
 mod tests {
     use super::*;
-    use crate::Reading;
 
     #[test]
     fn a_configuration_decides_the_answer() {
@@ -338,36 +253,8 @@ mod tests {
                 assert_eq!(of(Kind::Legal), 0);
                 assert_eq!(of(Kind::Hdr), 0);
                 assert_eq!(of(Kind::Void), 1);
-                assert_eq!(of(Kind::VoidEdges), 1);
-                assert_eq!(of(Kind::Offsets), 0);
             }
         }
-    }
-
-    /// Void blocks are good and bad in good numbers, and in most of them one of the bits 10 to 63 decides between the two.
-    #[test]
-    fn void_blocks_stand_at_both_sides_of_the_edges() {
-        let random = &mut Random::new(3);
-        let answer = |block: &[u8; 16]| Reading::Standard.answer(block, 4, 4);
-        let blocks: Vec<_> = (0..1000).map(|_| void_at_edges(random)).collect();
-        let good = blocks.iter().filter(|block| answer(block) == 1).count();
-        assert!((200..800).contains(&good), "{good}");
-        let is_at_edge =
-            |block: &&[u8; 16]| (10..64).any(|bit| answer(&flipped(**block, bit)) != answer(block));
-        let at_edge = blocks.iter().filter(is_at_edge).count();
-        assert!(at_edge > 500, "{at_edge}");
-    }
-
-    #[test]
-    fn a_void_block_has_the_extents_that_are_asked_for() {
-        let block = void_of(2, [1, 2, 0x1003, 0x1fff]);
-        let field = |start, len| crate::bits(&block, start, len);
-        assert_eq!([field(0, 10), field(10, 2)], [0x1fc, 2]);
-        assert_eq!(
-            [12, 25, 38, 51].map(|start| field(start, 13)),
-            [1, 2, 0x1003, 0x1fff]
-        );
-        assert_eq!(block[8..], [0; 8]);
     }
 
     #[test]

@@ -104,15 +104,18 @@ impl Texel {
 }
 
 /// The refusal of a call for channels by its options and sizes alone, if there is one: 23, 20, 21 or 22, in this order. The outputs
-/// have room for so many numbers and for the marks of so many texels.
+/// have room for so many numbers and for the marks of so many texels. No option is known yet.
 pub fn channels_refusal(
     options: u32,
     block_len: usize,
     (bw, bh): (usize, usize),
     (numbers, floats): (usize, usize),
 ) -> Option<u32> {
+    if options != 0 {
+        return Some(23);
+    }
     let texels = floats.min(numbers / CHANNELS);
-    refusal(options, block_len, (bw, bh), texels, bw.saturating_mul(bh))
+    refusal(block_len, bw, bh, texels, bw.saturating_mul(bh))
 }
 
 #[cfg(test)]
@@ -183,14 +186,12 @@ mod tests {
     #[test]
     fn channels_are_refused_in_order() {
         let unlisted = (4, 5);
-        assert_eq!(channels_refusal(2, 15, unlisted, (0, 0)), Some(23));
-        assert_eq!(channels_refusal(3, 16, (4, 4), (64, 16)), Some(23));
+        assert_eq!(channels_refusal(1, 15, unlisted, (0, 0)), Some(23));
         assert_eq!(channels_refusal(0, 15, unlisted, (0, 0)), Some(20));
-        assert_eq!(channels_refusal(1, 15, unlisted, (0, 0)), Some(20));
         assert_eq!(channels_refusal(0, 16, unlisted, (0, 0)), Some(21));
-        for (i, (bw, bh)) in FOOTPRINTS.into_iter().enumerate() {
+        for (bw, bh) in FOOTPRINTS {
             let texels = bw * bh;
-            let refusal = |room| channels_refusal(i as u32 % 2, 16, (bw, bh), room);
+            let refusal = |room| channels_refusal(0, 16, (bw, bh), room);
             assert_eq!(refusal((4 * texels - 1, texels)), Some(22));
             assert_eq!(refusal((4 * texels, texels - 1)), Some(22));
             assert_eq!(refusal((4 * texels, texels)), None);

@@ -1,6 +1,6 @@
 //! Which calls for an image are refused, and where an image's blocks lie.
 
-use crate::{options_refusal, FOOTPRINTS};
+use crate::FOOTPRINTS;
 use std::ops::Range;
 
 /// The longest side of an image.
@@ -35,13 +35,11 @@ impl Shape {
         (top..bottom).map(move |y| y * self.width + left..y * self.width + right)
     }
 
-    /// The refusal of an image by its options and sizes, if there is one: 23, 21, 30, 31 or 22, in this order. The output has room
-    /// for `room` words.
-    pub fn refusal(self, options: u32, data_len: usize, room: usize) -> Option<u32> {
+    /// The refusal of an image by its sizes, if there is one: 21, 30, 31 or 22, in this order. The output has room for `room`
+    /// words.
+    pub fn refusal(self, data_len: usize, room: usize) -> Option<u32> {
         let side = 1..=LONGEST;
-        if let Some(answer) = options_refusal(options) {
-            Some(answer)
-        } else if !FOOTPRINTS.contains(&(self.bw, self.bh)) {
+        if !FOOTPRINTS.contains(&(self.bw, self.bh)) {
             Some(21)
         } else if !side.contains(&self.width) || !side.contains(&self.height) {
             Some(30)
@@ -58,14 +56,13 @@ impl Shape {
     /// 33 or 34, in this order.
     pub fn step_refusal(
         self,
-        options: u32,
         data_len: usize,
         room: usize,
         places: usize,
         next: usize,
         blocks: usize,
     ) -> Option<u32> {
-        self.refusal(options, data_len, room).or_else(|| {
+        self.refusal(data_len, room).or_else(|| {
             if places < 3 {
                 Some(22)
             } else if blocks == 0 {
@@ -117,19 +114,15 @@ mod tests {
             bh: 5,
             ..wide
         };
-        assert_eq!(unlisted.refusal(4, 0, 0), Some(23));
-        assert_eq!(SHAPE.step_refusal(8, 97, 66, 2, 7, 0), Some(23));
-        for options in [0, 1] {
-            assert_eq!(unlisted.refusal(options, 0, 0), Some(21));
-            assert_eq!(wide.refusal(options, 0, 0), Some(30));
-            assert_eq!(SHAPE.refusal(options, 95, 65), Some(31));
-            assert_eq!(SHAPE.refusal(options, 96, 65), Some(22));
-            assert_eq!(SHAPE.refusal(options, 96, 66), None);
-            assert_eq!(SHAPE.step_refusal(options, 97, 66, 2, 7, 0), Some(31));
-            assert_eq!(SHAPE.step_refusal(options, 96, 66, 2, 7, 0), Some(22));
-            assert_eq!(SHAPE.step_refusal(options, 96, 66, 3, 7, 0), Some(33));
-            assert_eq!(SHAPE.step_refusal(options, 96, 66, 3, 7, 1), Some(34));
-            assert_eq!(SHAPE.step_refusal(options, 96, 66, 3, 6, 1), None);
-        }
+        assert_eq!(unlisted.refusal(0, 0), Some(21));
+        assert_eq!(wide.refusal(0, 0), Some(30));
+        assert_eq!(SHAPE.refusal(95, 65), Some(31));
+        assert_eq!(SHAPE.refusal(96, 65), Some(22));
+        assert_eq!(SHAPE.refusal(96, 66), None);
+        assert_eq!(SHAPE.step_refusal(97, 66, 2, 7, 0), Some(31));
+        assert_eq!(SHAPE.step_refusal(96, 66, 2, 7, 0), Some(22));
+        assert_eq!(SHAPE.step_refusal(96, 66, 3, 7, 0), Some(33));
+        assert_eq!(SHAPE.step_refusal(96, 66, 3, 7, 1), Some(34));
+        assert_eq!(SHAPE.step_refusal(96, 66, 3, 6, 1), None);
     }
 }

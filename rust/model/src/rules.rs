@@ -1,8 +1,5 @@
 //! Which blocks are legal, and where a legal block's fields lie.
 
-use crate::{options_refusal, Reading};
-use std::ops::Range;
-
 pub const FOOTPRINTS: [(usize, usize); 14] = [
     (4, 4),
     (5, 4),
@@ -20,7 +17,7 @@ pub const FOOTPRINTS: [(usize, usize); 14] = [
     (12, 12),
 ];
 
-/// The answers that a block of sixteen bytes can get at a listed footprint, with room for its words, in the crate's reading.
+/// The answers that a block of sixteen bytes can get at a listed footprint, with room for its words.
 pub const ANSWERS: [u8; 9] = [0, 1, 10, 11, 12, 13, 14, 15, 16];
 
 /// The word of a reserved or refused block.
@@ -187,30 +184,6 @@ impl Layout {
             .collect()
     }
 
-    /// Which of the endpoint values are those of a partition.
-    pub fn values_of(&self, partition: usize) -> Range<usize> {
-        let values = |class: &usize| 2 * (class + 1);
-        let start = self.classes[..partition].iter().map(values).sum();
-        start..start + values(&self.classes[partition])
-    }
-
-    /// The map of a legal block.
-    pub(crate) fn map(&self) -> [u32; 9] {
-        let weights = 128 - self.weight_bits;
-        let fields = [
-            TOPS[self.ends()],
-            0,
-            self.low,
-            self.low,
-            cost(self.ends(), self.values),
-            weights - self.extra(),
-            self.extra(),
-            weights,
-            self.weight_bits,
-        ];
-        fields.map(|n| n as u32)
-    }
-
     /// The channel that a legal block's second plane weighs, where it has two.
     pub fn channel(&self, block: &[u8]) -> Option<usize> {
         self.mode
@@ -219,13 +192,11 @@ impl Layout {
     }
 }
 
-/// Whether a block is a void one.
-pub fn is_void(block: &[u8]) -> bool {
-    bits(block, 0, 9) == 0x1fc
-}
-
-/// The answer of a block that is not void, at a listed footprint.
-pub(crate) fn ordinary_answer(block: &[u8], bw: usize, bh: usize) -> u8 {
+/// The answer of a block at a listed footprint.
+pub fn answer(block: &[u8], bw: usize, bh: usize) -> u8 {
+    if block[0] == 0xfc && block[1] & 1 == 1 {
+        return 1;
+    }
     if bits(block, 0, 4) == 0 || bits(block, 0, 2) == 0 && bits(block, 6, 3) == 7 {
         return 10;
     }
@@ -247,23 +218,32 @@ pub(crate) fn ordinary_answer(block: &[u8], bw: usize, bh: usize) -> u8 {
     }
 }
 
-/// The answer of a block at a listed footprint, in the crate's reading.
-pub fn answer(block: &[u8], bw: usize, bh: usize) -> u8 {
-    Reading::Crate.answer(block, bw, bh)
+/// The map of a block at a listed footprint: the largest endpoint value, and start and length of low configuration, endpoints,
+/// extra and weights; nothing but zeros for an answer other than 0.
+pub fn map(block: &[u8], bw: usize, bh: usize) -> [u32; 9] {
+    if answer(block, bw, bh) != 0 {
+        return [0; 9];
+    }
+    let l = Layout::of(block);
+    let weights = 128 - l.weight_bits;
+    let fields = [
+        TOPS[l.ends()],
+        0,
+        l.low,
+        l.low,
+        cost(l.ends(), l.values),
+        weights - l.extra(),
+        l.extra(),
+        weights,
+        l.weight_bits,
+    ];
+    fields.map(|n| n as u32)
 }
 
-/// The refusal of a call by its options and sizes alone, if there is one: 23, 20, 21 or 22, in this order. The output has room for
-/// `room` numbers, and `wanted` would be written.
-pub fn refusal(
-    options: u32,
-    block_len: usize,
-    (bw, bh): (usize, usize),
-    room: usize,
-    wanted: usize,
-) -> Option<u32> {
-    if let Some(answer) = options_refusal(options) {
-        Some(answer)
-    } else if block_len != 16 {
+/// The refusal of a call by its sizes alone, if there is one: 20, 21 or 22, in this order. The output has room for `room` numbers,
+/// and `wanted` would be written.
+pub fn refusal(block_len: usize, bw: usize, bh: usize, room: usize, wanted: usize) -> Option<u32> {
+    if block_len != 16 {
         Some(20)
     } else if !FOOTPRINTS.contains(&(bw, bh)) {
         Some(21)
@@ -290,11 +270,8 @@ mod tests {
 
     #[test]
     fn the_block_p1_and_its_map() {
-        for reading in [Reading::Crate, Reading::Standard] {
-            assert_eq!(reading.answer(&P1, 4, 4), 0);
-            let map = [255, 0, 17, 17, 16, 96, 0, 96, 32];
-            assert_eq!(reading.map(&P1, 4, 4), map);
-        }
+        assert_eq!(answer(&P1, 4, 4), 0);
+        assert_eq!(map(&P1, 4, 4), [255, 0, 17, 17, 16, 96, 0, 96, 32]);
     }
 
     #[test]
@@ -305,7 +282,7 @@ mod tests {
         assert_eq!(answer(&p3, 4, 4), 1);
         assert_eq!(answer(&[0; 16], 4, 4), 10);
         assert_eq!(answer(&of_mode(0xf8, 1), 12, 12), 10);
-        assert_eq!(Reading::Crate.map(&p3, 4, 4), [0; 9]);
+        assert_eq!(map(&p3, 4, 4), [0; 9]);
     }
 
     #[test]
@@ -330,14 +307,11 @@ mod tests {
     }
 
     #[test]
-    fn options_and_sizes_are_refused_in_order() {
-        assert_eq!(refusal(2, 15, (4, 5), 0, 20), Some(23));
-        for options in [0, 1] {
-            assert_eq!(refusal(options, 15, (4, 5), 0, 20), Some(20));
-            assert_eq!(refusal(options, 16, (4, 5), 0, 20), Some(21));
-            assert_eq!(refusal(options, 16, (5, 4), 19, 20), Some(22));
-            assert_eq!(refusal(options, 16, (5, 4), 20, 20), None);
-        }
+    fn sizes_are_refused_in_order() {
+        assert_eq!(refusal(15, 4, 5, 0, 20), Some(20));
+        assert_eq!(refusal(16, 4, 5, 0, 20), Some(21));
+        assert_eq!(refusal(16, 5, 4, 19, 20), Some(22));
+        assert_eq!(refusal(16, 5, 4, 20, 20), None);
     }
 
     #[test]
@@ -347,7 +321,6 @@ mod tests {
         let l = Layout::of(&block);
         assert_eq!(l.weight_bits, 32);
         assert_eq!(l.modes(&block), [6, 3]);
-        assert_eq!([l.values_of(0), l.values_of(1)], [0..4, 4..6]);
         assert_eq!(answer(&block, 4, 4), 0);
     }
 }

@@ -68,21 +68,6 @@ pub mod probe {
         d.endpoints
     }
 
-    /// The unquantised endpoint values of a legal block, of which there are at most eighteen. Mode 4 passes its four values on: four
-    /// partitions of it show the first sixteen, and one after two of mode 12, which take eight each, shows those after them.
-    pub fn values(buf: &[u8], bw: usize, bh: usize) -> Vec<i32> {
-        let p = params(buf, bw, bh);
-        let block = u128::from_le_bytes(buf.try_into().unwrap());
-        // the values of one partition are moved to where those of several start
-        let moved = (block << if p.part_num == 1 { 29 - 17 } else { 0 }).to_le_bytes();
-        let ends = |cem| endpoints(&moved, 4, cem, p.cem_range, p.endpoint_value_num);
-        let passed_on = |e: &[i32; 8]| [e[0], e[4], e[3], e[7]];
-        let mut values: Vec<i32> = ends([4; 4]).iter().flat_map(passed_on).collect();
-        values.extend(passed_on(&ends([12, 12, 4, 4])[2]));
-        values.truncate(p.endpoint_value_num);
-        values
-    }
-
     pub fn weights(
         buf: &[u8],
         bw: usize,
@@ -164,14 +149,9 @@ pub mod probe {
             (c >> 1 & 0x7c00) | m >> 3
         }
 
-        /// The byte that the channel is painted as.
+        /// The byte of an LDR channel.
         pub fn byte(self) -> u8 {
-            let Channel { v0, v1, weight, .. } = self;
-            if self.hdr {
-                select_color_hdr(v0, v1, weight)
-            } else {
-                select_color(v0, v1, weight)
-            }
+            select_color(self.v0, self.v1, self.weight)
         }
     }
 
@@ -179,14 +159,6 @@ pub mod probe {
     pub struct Texel {
         pub partition: usize,
         pub channels: [Channel; 4],
-    }
-
-    impl Texel {
-        /// The word that the texel is painted as.
-        pub fn word(&self) -> u32 {
-            let [red, green, blue, alpha] = self.channels.map(Channel::byte);
-            color(red, green, blue, alpha)
-        }
     }
 
     /// Whether the channels of an endpoint mode are HDR, by `applicate_color`'s own tables: it paints a texel whose endpoints are all

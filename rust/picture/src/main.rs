@@ -1,6 +1,6 @@
 //! Makes a picture of an .astc file. `picture --help` says how.
 
-use astc::{block_map_with, image_channels_with, Answer, Channel, Cursor, Options, Reading};
+use astc::{block_map, image_channels, Answer, Channel, Cursor};
 use picture::container::{self, Container};
 use picture::{pfm, png};
 use std::ffi::OsString;
@@ -10,7 +10,7 @@ use std::process::ExitCode;
 use std::{env, fs};
 
 const USAGE: &str =
-    "usage: picture [--standard] IN.astc OUT.png, or OUT.pam, or OUT.pfm for floats, or picture --help";
+    "usage: picture IN.astc OUT.png, or OUT.pam, or OUT.pfm for floats, or picture --help";
 
 const HELP: &str = "\
 Makes a picture of an .astc file, as astcenc writes it.
@@ -18,12 +18,7 @@ Makes a picture of an .astc file, as astcenc writes it.
     picture IN.astc OUT.png    a PNG file, with alpha where a pixel is not opaque
     picture IN.astc OUT.pam    a PAM file
     picture IN.astc OUT.pfm    a PFM file of floats, which keeps what lies above 1.0 and leaves alpha out
-    picture --standard IN.astc OUT.png, or OUT.pam, or OUT.pfm
-                               the same in the standard's reading
     picture --help             says this
-
-Blocks are read as the crate texture2ddecoder reads them. In the standard's reading negative offsets of the HDR endpoint modes 11,
-14 and 15 have their sign extended, and a void-extent block that breaks the standard's rules on its extent is magenta.
 
 It says how many blocks break a rule and are magenta, and of a PFM file how many pixels lie above 1.0 in red, green or blue. On a
 terminal it shows how far it is with a larger image, on standard error.
@@ -56,14 +51,14 @@ impl Progress {
 }
 
 /// Decodes to words, in steps; the words, and how many blocks broke a rule.
-fn words(options: Options, container: &Container) -> Result<(Vec<u32>, usize), Answer> {
+fn words(container: &Container) -> Result<(Vec<u32>, usize), Answer> {
     let (width, height) = (container.width, container.height);
     let mut words = vec![0; width * height];
     let mut cursor = Cursor::new(width, height, container.footprint);
     let progress = Progress::new(container.blocks.len() / 16);
     let mut bad = 0;
     while cursor.next < progress.total {
-        let step = cursor.step_with(options, container.blocks, BLOCKS, &mut words)?;
+        let step = cursor.step(container.blocks, BLOCKS, &mut words)?;
         bad += step.bad;
         cursor = step.cursor;
         progress.show(cursor.next);
@@ -72,7 +67,7 @@ fn words(options: Options, container: &Container) -> Result<(Vec<u32>, usize), A
 }
 
 /// Decodes to floats, in bands of whole rows of blocks, each an image of its own; the pixels, and how many blocks broke a rule.
-fn floats(options: Options, container: &Container) -> Result<(Vec<[f32; 3]>, usize), Answer> {
+fn floats(container: &Container) -> Result<(Vec<[f32; 3]>, usize), Answer> {
     let (width, height, footprint) = (container.width, container.height, container.footprint);
     let across = width.div_ceil(footprint.width());
     let rows = BLOCKS.div_ceil(across);
@@ -83,11 +78,9 @@ fn floats(options: Options, container: &Container) -> Result<(Vec<[f32; 3]>, usi
     for blocks in container.blocks.chunks(16 * across * rows) {
         let left = height - pixels.len() / width;
         let high = left.min(rows * footprint.height());
-        image_channels_with(options, blocks, width, high, footprint, &mut band)?;
+        image_channels(blocks, width, high, footprint, &mut band)?;
         pixels.extend(band[..width * high].iter().copied().map(pfm::colour));
-        let maps = blocks
-            .chunks(16)
-            .map(|block| block_map_with(options, block, footprint));
+        let maps = blocks.chunks(16).map(|block| block_map(block, footprint));
         bad += maps.filter(|map| map.is_err_and(Answer::is_bad)).count();
         done += blocks.len() / 16;
         progress.show(done);
@@ -124,10 +117,10 @@ struct Made {
     above: Option<usize>,
 }
 
-fn make(options: Options, container: &Container, kind: Kind) -> Result<Made, Answer> {
+fn make(container: &Container, kind: Kind) -> Result<Made, Answer> {
     let (width, height) = (container.width, container.height);
     let of_words = |write: fn(&[u32], usize, usize) -> Vec<u8>| {
-        let (words, bad) = words(options, container)?;
+        let (words, bad) = words(container)?;
         Ok(Made {
             file: write(&words, width, height),
             bad,
@@ -138,7 +131,7 @@ fn make(options: Options, container: &Container, kind: Kind) -> Result<Made, Ans
         Kind::Png => of_words(png::png),
         Kind::Pam => of_words(png::pam),
         Kind::Pfm => {
-            let (pixels, bad) = floats(options, container)?;
+            let (pixels, bad) = floats(container)?;
             let above = pixels.iter().filter(|p| pfm::is_above_one(p)).count();
             Ok(Made {
                 file: pfm::pfm(&pixels, width, height),
@@ -157,11 +150,11 @@ fn say(words: &str) -> Result<(), String> {
         .map_err(|error| format!("standard output was not written: {error}"))
 }
 
-fn run(options: Options, input: &Path, output: &Path, kind: Kind) -> Result<(), String> {
+fn run(input: &Path, output: &Path, kind: Kind) -> Result<(), String> {
     let (from, to) = (input.display(), output.display());
     let file = fs::read(input).map_err(|error| format!("{from} was not read: {error}"))?;
     let container = container::read(&file).map_err(|fault| format!("{from}: {fault}"))?;
-    let made = make(options, &container, kind).map_err(|refusal| format!("{from}: {refusal}"))?;
+    let made = make(&container, kind).map_err(|refusal| format!("{from}: {refusal}"))?;
     fs::write(output, made.file).map_err(|error| format!("{to} was not written: {error}"))?;
     let (width, height) = (container.width, container.height);
     let (footprint, total) = (container.footprint, container.blocks.len() / 16);
@@ -175,24 +168,15 @@ fn run(options: Options, input: &Path, output: &Path, kind: Kind) -> Result<(), 
     say(&said)
 }
 
-/// Makes a picture if the words are an input and an output of a known kind, and nothing otherwise.
-fn picture(options: Options, words: &[OsString]) -> Option<Result<(), String>> {
-    let [input, output] = words else {
-        return None;
-    };
-    let kind = Kind::of(Path::new(output))?;
-    Some(run(options, Path::new(input), Path::new(output), kind))
-}
-
 /// Does what the words ask for, or nothing if they ask for nothing known.
 fn obey(words: &[OsString]) -> Option<Result<(), String>> {
-    let options = Options::new();
     match words {
         [word] if word == "--help" || word == "-h" => Some(say(HELP)),
-        [word, files @ ..] if word == "--standard" => {
-            picture(options.with_reading(Reading::Standard), files)
+        [input, output] => {
+            let kind = Kind::of(Path::new(output))?;
+            Some(run(Path::new(input), Path::new(output), kind))
         }
-        files => picture(options, files),
+        _ => None,
     }
 }
 

@@ -7,8 +7,6 @@ use std::path::Path;
 use std::process::{Command, Output};
 
 mod common;
-#[path = "common/png.rs"]
-mod reader;
 use common::{float, halves, scratch, stored};
 
 fn program() -> Command {
@@ -19,35 +17,25 @@ fn run(input: &Path, output: &Path) -> Output {
     program().args([input, output]).output().unwrap()
 }
 
-/// What the program says of a file, and the picture that it makes of it, with these words before the two files.
-fn made(words: &[&str], input: &Path, name: &str) -> (String, Vec<u8>) {
+/// What the program says of a file, and the floats' bits of its PFM file, the top row first.
+fn pfm(input: &Path, name: &str, width: usize, height: usize) -> (String, Vec<[u32; 3]>) {
     let output = scratch(name);
-    let said = program().args(words).args([input, &output]).output();
-    let said = said.unwrap();
+    let said = run(input, &output);
     assert!(said.status.success() && said.stderr.is_empty());
     let file = fs::read(&output).unwrap();
     fs::remove_file(&output).unwrap();
-    (String::from_utf8(said.stdout).unwrap(), file)
-}
-
-/// The floats' bits of a PFM file, the top row first.
-fn pixels_of_pfm(file: &[u8], width: usize, height: usize) -> Vec<[u32; 3]> {
     let header = format!("PF\n{width} {height}\n-1.0\n");
     let rows = file.strip_prefix(header.as_bytes()).unwrap();
     assert_eq!(rows.len(), 12 * width * height);
-    rows.chunks(12 * width)
+    let pixels = rows
+        .chunks(12 * width)
         .rev()
         .flat_map(|row| row.chunks(12))
         .map(|p| {
             std::array::from_fn(|k| u32::from_le_bytes(p[4 * k..4 * k + 4].try_into().unwrap()))
         })
-        .collect()
-}
-
-/// What the program says of a file, and the floats' bits of its PFM file, the top row first.
-fn pfm(input: &Path, name: &str, width: usize, height: usize) -> (String, Vec<[u32; 3]>) {
-    let (said, file) = made(&[], input, name);
-    (said, pixels_of_pfm(&file, width, height))
+        .collect();
+    (String::from_utf8(said.stdout).unwrap(), pixels)
 }
 
 /// An .astc file of a footprint of 4x4.
@@ -151,49 +139,6 @@ fn bands_make_one_picture() {
     assert!(said.starts_with("4094x66 pixels, 17408 blocks of 4x4, 0 of them magenta\n"));
 }
 
-/// An .astc file of 8x4 pixels that depends on the reading: a block of endpoint mode 11 whose first green and blue have negative
-/// offsets, and a void block whose high t is below its low t.
-fn file_of_two_readings() -> Vec<u8> {
-    let values: [u128; 6] = [240, 0, 0, 0, 112, 96];
-    let values = (17..).step_by(8).zip(values).map(|(at, v)| v << at);
-    let negative = (0x42 | 11 << 13 | values.sum::<u128>()).to_le_bytes();
-    let backwards = [
-        0xfc, 0xfd, 0xff, 0xff, 0xff, 0xff, 0xf7, 0xff, 0, 0, 0, 0xff, 0, 0, 0xff, 0xff,
-    ];
-    astc_file(8, 4, &[negative, backwards])
-}
-
-#[test]
-fn standard_is_the_standards_reading() {
-    let input = scratch("readings.astc");
-    fs::write(&input, file_of_two_readings()).unwrap();
-    // the colours of the two blocks as words and as floats, and how many blocks are magenta
-    let one = 1f32.to_bits();
-    let crates = ([0xffff_0000, 0xff00_ff00], [[one, 0, 0], [0, one, 0]], 0);
-    let colour = [one, 2f32.to_bits(), 4f32.to_bits()];
-    let standards = ([0xffff_ffff, 0xffff_00ff], [colour, [one, 0, one]], 1);
-    for (words, (of_words, of_floats, magenta)) in [(&[][..], crates), (&["--standard"], standards)]
-    {
-        let line = format!("8x4 pixels, 2 blocks of 4x4, {magenta} of them magenta\n");
-        let (said, file) = made(words, &input, "readings.png");
-        assert_eq!(said, line);
-        let (pixels, width, height) = reader::unpng(&file);
-        assert_eq!((width, height), (8, 4));
-        assert!((0..32).all(|k| pixels[k] == of_words[k % 8 / 4]));
-
-        let (said, file) = made(words, &input, "readings.pam");
-        assert_eq!(said, line);
-        assert_eq!(file, picture::png::pam(&pixels, width, height));
-
-        let (said, file) = made(words, &input, "readings.pfm");
-        let above = 16 * magenta;
-        assert_eq!(said, format!("{line}{above} pixels above 1.0\n"));
-        let pixels = pixels_of_pfm(&file, 8, 4);
-        assert!((0..32).all(|k| pixels[k] == of_floats[k % 8 / 4]));
-    }
-    fs::remove_file(&input).unwrap();
-}
-
 #[test]
 fn help_goes_to_standard_output() {
     for word in ["--help", "-h"] {
@@ -206,25 +151,11 @@ fn help_goes_to_standard_output() {
 
 #[test]
 fn other_words_are_refused() {
-    for words in [
-        &[][..],
-        &["in.astc"],
-        &["in.astc", "out.png", "more"],
-        &["--standard"],
-        &["--standard", "--help"],
-        &["--standard", "out.png"],
-        &["--standard", "--standard", "in.astc", "out.png"],
-        &["--Standard", "in.astc", "out.png"],
-        &["--crate", "in.astc", "out.png"],
-        &["in.astc", "out.png", "--standard"],
-        &["in.astc", "--standard", "out.png"],
-    ] {
+    for words in [&[][..], &["in.astc"], &["in.astc", "out.png", "more"]] {
         let said = program().args(words).output().unwrap();
         assert_eq!(said.status.code(), Some(2));
         assert!(said.stdout.is_empty());
-        assert!(said
-            .stderr
-            .starts_with(b"usage: picture [--standard] IN.astc OUT.png"));
+        assert!(said.stderr.starts_with(b"usage: picture IN.astc OUT.png"));
     }
 }
 
@@ -235,9 +166,7 @@ fn other_endings_are_not_taken() {
         let said = run(&stored("hdr-6x6.astc"), &output);
         assert_eq!(said.status.code(), Some(2));
         assert!(said.stdout.is_empty() && !output.exists());
-        assert!(said
-            .stderr
-            .starts_with(b"usage: picture [--standard] IN.astc OUT.png"));
+        assert!(said.stderr.starts_with(b"usage: picture IN.astc OUT.png"));
     }
 }
 

@@ -1,17 +1,22 @@
--- `astc::astc_decode_image` is the function with options at 0. Assumes nothing.
-use Rattle.astc.specs.SurfaceLaws.{none}
+-- `astc::astc_decode_image`: the answer fits in 32 bits. Assumes nothing.
+use Rattle.image_shape.specs.ShapeLaws.{refusal-small}
+use Prim.Native.Nat.{◌<◌}
+use native.Mathlib.Omega.{arith}
 use borrow.Author.Rules.{rules}
 use Rattle.astc.proofs.astc_decode_image.Statement.{statement}
 use Rattle.astc.proofs.astc_decode_image.Tie as tie
 
-astc-decode-image-with-requires : tie.Need-astc-decode-image-with-requires
-astc-decode-image-with-requires c κs = search rules
+decode-astc-requires : tie.Need-decode-astc-requires
+decode-astc-requires c κs = search rules
+
+cast-result : tie.Need-overflow-cast-result
+cast-result c = let d = c.before.before.decode-astc in let l : d.result < 35 = rw d.ensures.0 (refusal-small _ _ _) in omega (arith, l)
 
 same_length : tie.Need-same-length
 same_length c = search rules
 
 returns : tie.Need-returns
-returns c = none _ _ _ _ _ c.before.before.astc-decode-image-with.ensures
+returns c = c.before.before.decode-astc.ensures
 
 pub astc-decode-image-spec : {M : Type 1} → statement M
-astc-decode-image-spec = tie.close (tie.spec astc-decode-image-with-requires same_length returns)
+astc-decode-image-spec = tie.close (tie.spec decode-astc-requires cast-result same_length returns)

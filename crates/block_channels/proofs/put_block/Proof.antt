@@ -2,7 +2,8 @@
 -- its lanes. Assumes nothing.
 use native.Mathlib.Omega.{arith}
 use Rattle.footprint.specs.Sides.{sides-of}
-use Rattle.block_channels.specs.ChannelLaws.{put-void, put-legal, put_one}
+use Rattle.block_void.specs.VoidLaws.{void-false}
+use Rattle.block_channels.specs.ChannelLaws.{put-void, put-legal, put-bad}
 use borrow.Author.Rules.{rules}
 use Rattle.block_channels.proofs.put_block.Statement.{statement}
 use Rattle.block_channels.proofs.put_block.Tie as tie
@@ -18,8 +19,8 @@ load-requires c κs = search rules
 void-answer-requires : tie.Need-void-answer-requires
 void-answer-requires c κs = search rules
 
-samples-of-requires : tie.Need-samples-of-requires
-samples-of-requires c κs = search rules
+void-samples-requires : tie.Need-void-samples-requires
+void-samples-requires c κs = search rules
 
 fill-texels-requires : tie.Need-fill-texels-requires
 fill-texels-requires c κs =
@@ -35,16 +36,17 @@ same-length-2 c = search rules
 returns : tie.Need-returns
 returns c =
     let after-fill-texels = c.before.before.before.before in
-    let after-samples-of = after-fill-texels.before in
-    let at-if1 = after-samples-of.before.before.before in
+    let after-void-samples = after-fill-texels.before in
+    let at-if1 = after-void-samples.before.before.before in
     let after-void-answer = at-if1.before in
     let after-load = after-void-answer.before in
-    put-void _ _ _ _ after-load.load.ensures _ _ _ _ _ _ after-void-answer.void-answer.ensures at-if1.if1.true after-samples-of.samples-of.ensures after-fill-texels.fill-texels.ensures
+    put-void _ _ _ after-load.load.ensures _ _ _ _ _ _ after-void-samples.void-samples.ensures after-void-answer.void-answer.ensures at-if1.if1.true after-fill-texels.fill-texels.ensures
 
 decode-samples-requires : tie.Need-decode-samples-requires
 decode-samples-requires c κs =
-    let at-start = c.before.before.before.before.before.before.before.before in
-    at-start.requires.1
+    let after-void-answer = c.before.before in
+    let at-start = after-void-answer.before.before.before.before.before.before in
+    (void-false _ _ after-void-answer.void-answer.ensures c.before.if1.false, at-start.requires.1)
 
 put-texels-requires : tie.Need-put-texels-requires
 put-texels-requires c κs =
@@ -64,10 +66,10 @@ returns-2 c =
     let after-decode-samples = at-if2.before in
     let after-load = after-decode-samples.before.before.before.before in
     let at-start = after-load.before.before.before.before.before in
-    put-legal _ _ _ _ after-load.load.ensures _ _ _ _ _ _ at-start.requires.1 after-decode-samples.decode-samples.ensures.1 after-decode-samples.decode-samples.ensures.0 at-if2.if2.true after-put-texels.put-texels.ensures
+    put-legal _ _ _ after-load.load.ensures _ _ _ _ _ _ at-start.requires.1 after-decode-samples.decode-samples.ensures.1 after-decode-samples.decode-samples.ensures.0 at-if2.if2.true after-put-texels.put-texels.ensures
 
-samples-of-requires-2 : tie.Need-samples-of-requires-2
-samples-of-requires-2 c κs = search rules
+magenta-requires : tie.Need-magenta-requires
+magenta-requires c κs = search rules
 
 fill-texels-requires-2 : tie.Need-fill-texels-requires-2
 fill-texels-requires-2 c κs =
@@ -83,11 +85,13 @@ same-length-6 c = search rules
 returns-3 : tie.Need-returns-3
 returns-3 c =
     let after-fill-texels2 = c.before.before.before.before in
-    let after-samples-of2 = after-fill-texels2.before in
-    let at-if2 = after-samples-of2.before.before.before in
+    let after-magenta = after-fill-texels2.before in
+    let at-if2 = after-magenta.before.before.before in
     let after-decode-samples = at-if2.before in
-    let after-load = after-decode-samples.before.before.before.before in
-    put_one _ _ _ _ after-load.load.ensures _ _ _ _ _ _ after-decode-samples.decode-samples.ensures.0 at-if2.if2.false after-samples-of2.samples-of2.ensures after-fill-texels2.fill-texels2.ensures
+    let at-if1 = after-decode-samples.before.before in
+    let after-void-answer = at-if1.before in
+    let after-load = after-void-answer.before in
+    put-bad _ _ _ after-load.load.ensures _ _ _ _ _ _ after-magenta.magenta.ensures (void-false _ _ after-void-answer.void-answer.ensures at-if1.if1.false) after-decode-samples.decode-samples.ensures.0 at-if2.if2.false after-fill-texels2.fill-texels2.ensures
 
 pub put-block-spec : {M : Type 1} → statement M
 put-block-spec =
@@ -96,7 +100,7 @@ put-block-spec =
     mul-n
     load-requires
     void-answer-requires
-    samples-of-requires
+    void-samples-requires
     fill-texels-requires
     same_length
     same-length-2
@@ -106,7 +110,7 @@ put-block-spec =
     same-length-3
     same-length-4
     returns-2
-    samples-of-requires-2
+    magenta-requires
     fill-texels-requires-2
     same-length-5
     same-length-6

@@ -33,13 +33,13 @@ unquantize-requires c κs =
 
 decode-endpoints-requires : tie.Need-decode-endpoints-requires
 decode-endpoints-requires c κs =
-    let at-start = c.before.before.before.before.before.before.before.before.before.before in
+    let at-start = c.before.before.before.before.before.before.before.before.before in
     let f = at-start.requires.1.1 in
     ((f.part, f.parts), (λ i h. f.modes i, rw f.count f.values))
 
 returns : tie.Need-returns
 returns c =
-    let after-unquantize = c.before.before.before in
+    let after-unquantize = c.before.before in
     let after-decode-intseq = after-unquantize.before.before.before in
     let after-range-of = after-decode-intseq.before in
     let at-start = after-range-of.before.before.before.before in

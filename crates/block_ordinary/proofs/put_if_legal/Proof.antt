@@ -13,7 +13,7 @@ put-ordinary-requires : tie.Need-put-ordinary-requires
 put-ordinary-requires c κs =
     let after-decode-block-params = c.before.before in
     let at-start = after-decode-block-params.before in
-    (at-start.requires.0, ready _ _ _ _ after-decode-block-params.decode-block-params.ensures c.before.if1.true at-start.requires.1)
+    (at-start.requires.0, ready _ _ _ after-decode-block-params.decode-block-params.ensures c.before.if1.true at-start.requires.1.1)
 
 returns : tie.Need-returns
 returns c =
@@ -21,12 +21,12 @@ returns c =
     let after-decode-block-params = at-if1.before in
     let e = after-decode-block-params.decode-block-params.ensures in
     let z = at-if1.if1.true in
-    (sym z ∙ answer-told _ _ _ _ e, lanes-legal _ _ _ _ e _ _ _ z c.put-ordinary.ensures)
+    (sym z ∙ answer-told _ _ _ e, lanes-legal _ _ _ e _ _ _ z c.put-ordinary.ensures)
 
 returns-2 : tie.Need-returns-2
 returns-2 c =
     let e = c.before.decode-block-params.ensures in
-    (answer-told _ _ _ _ e, lanes-none _ _ _ _ e _ _ c.if1.false)
+    (answer-told _ _ _ e, lanes-none _ _ _ e _ _ c.if1.false)
 
 pub put-if-legal-spec : {M : Type 1} → statement M
 put-if-legal-spec =

@@ -10,16 +10,16 @@ use Rattle.endpoints.proofs.decode_endpoints.Statement.{statement}
 use Rattle.endpoints.proofs.decode_endpoints.Tie as tie
 
 abbrev invariant-loop : tie.invariant-loop
-invariant-loop reading parts ev modes out₀ k₀ i₀ out k i = (i ≤ parts) × (k ≡ count_to modes i) × (out ≡ endpoints_list reading i modes ev)
+invariant-loop parts ev modes out₀ k₀ i₀ out k i = (i ≤ parts) × (k ≡ count_to modes i) × (out ≡ endpoints_list i modes ev)
 
 abbrev decreases-loop : tie.decreases-loop
-decreases-loop reading parts ev modes out₀ k₀ i₀ out k i = parts - i
+decreases-loop parts ev modes out₀ k₀ i₀ out k i = parts - i
 
 -- the values of the partition at hand end before the eighteenth
-early : (c : tie.In-loop invariant-loop decreases-loop) → count_to c.before.before.before.args.t3 c.before.loop.i + count_of (get_or c.before.before.before.args.t3 c.before.loop.i 0) ≤ 18
+early : (c : tie.In-loop invariant-loop decreases-loop) → count_to c.before.before.before.args.t2 c.before.loop.i + count_of (get_or c.before.before.before.args.t2 c.before.loop.i 0) ≤ 18
 early c =
     let at-start = c.before.before.before in
-    starts-early at-start.args.t3 c.before.loop.i at-start.args.parts (omega arith) at-start.requires.1.1
+    starts-early at-start.args.t2 c.before.loop.i at-start.args.parts (omega arith) at-start.requires.1.1
 
 no-endpoints-requires : tie.Need-no-endpoints-requires invariant-loop decreases-loop
 no-endpoints-requires c κs = search rules
@@ -67,7 +67,7 @@ loop-again c =
     let at-start = at-loop.before.before in
     let l = at-loop.loop in
     let a = at-start.args in
-    (omega arith, rw (c.values-of.ensures, l.invariant.1, count_next a.t3 l.i), rw l.invariant.2 (one_more a.reading a.t3 a.ev.now _ l.i (omega arith) (c.before.decode-mode.ensures ∙ rw (after-values-at.values-at.ensures, l.invariant.1))))
+    (omega arith, rw (c.values-of.ensures, l.invariant.1, count_next a.t2 l.i), rw l.invariant.2 (one_more a.t2 a.ev.now _ l.i (omega arith) (c.before.decode-mode.ensures ∙ rw (after-values-at.values-at.ensures, l.invariant.1))))
 
 returns : tie.Need-returns invariant-loop decreases-loop
 returns c =

@@ -18,7 +18,7 @@ returns : tie.Need-returns
 returns c = search rules
 
 returns-2 : tie.Need-returns-2
-returns-2 c = c.decode-ldr.ensures _
+returns-2 c = search rules
 
 pub decode-mode-spec : {M : Type 1} → statement M
 decode-mode-spec =

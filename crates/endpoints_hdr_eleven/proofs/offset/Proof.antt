@@ -26,7 +26,7 @@ returns-2 c = (c.keep2.ensures.0 ∙ ⊎_elim (λ e. rw e) (λ e. rw e) c.before
 
 returns-3 : tie.Need-returns-3
 unfolding offsets
-returns-3 c = (c.keep3.ensures.0 ∙ offset-rest c.before.before.args.reading c.before.before.args.x c.before.before.args.mode (omega arith) c.before.match.rest.0.1 c.before.match.rest.1, omega arith)
+returns-3 c = (c.keep3.ensures.0 ∙ offset-rest c.before.before.args.x c.before.before.args.mode (omega arith) c.before.match.rest.0.1 c.before.match.rest.1, omega arith)
 
 pub offset-spec : {M : Type 1} → statement M
 offset-spec =

@@ -33,7 +33,7 @@ returns-4 c =
     let at-match = c.before.before in
     let at-start = at-match.before in
     let n = at-match.match.rest in
-    mode-11 _ _ _ _ _ (last-modes at-start.args.mode at-start.requires.0 at-start.requires.1 n.0.0.1 n.0.1 n.1) c.before.alphas-of.ensures c.decode-endpoints-hdr11.ensures
+    mode-11 _ _ _ _ (last-modes at-start.args.mode at-start.requires.0 at-start.requires.1 n.0.0.1 n.0.1 n.1) c.before.alphas-of.ensures c.decode-endpoints-hdr11.ensures
 
 pub decode-hdr-spec : {M : Type 1} → statement M
 decode-hdr-spec =

@@ -63,7 +63,7 @@ returns-7 c =
     let at-match = c.before.before in
     let at-start = at-match.before in
     let n = at-match.match.rest in
-    λ r. mode-offset _ _ _ r _ (last-modes at-start.args.mode at-start.requires.0 at-start.requires.1 n.0.0.0.0.0.1 n.0.0.0.0.1 n.0.0.0.1 n.0.0.1 n.0.1 n.1) c.before.offset-alphas.ensures c.offset-endpoints.ensures
+    mode-offset _ _ _ _ (last-modes at-start.args.mode at-start.requires.0 at-start.requires.1 n.0.0.0.0.0.1 n.0.0.0.0.1 n.0.0.0.1 n.0.0.1 n.0.1 n.1) c.before.offset-alphas.ensures c.offset-endpoints.ensures
 
 pub decode-ldr-spec : {M : Type 1} → statement M
 decode-ldr-spec =

@@ -16,10 +16,10 @@ use Rattle.image_blocks.proofs.paint_blocks.Statement.{statement}
 use Rattle.image_blocks.proofs.paint_blocks.Tie as tie
 
 abbrev invariant-loop : tie.invariant-loop
-invariant-loop «data» first end out₀ job tables lanes₀ across column row at₀ bad₀ out lanes at bad = Painting job.options «data» job.shape first end out₀ across out lanes at bad
+invariant-loop «data» m first end out₀ tables lanes₀ across at₀ bad₀ out lanes at bad = Painting «data» m first end out₀ across out lanes at bad
 
 abbrev decreases-loop : tie.decreases-loop
-decreases-loop «data» first end out₀ job tables lanes₀ across column row at₀ bad₀ out lanes at bad = end - at.block
+decreases-loop «data» m first end out₀ tables lanes₀ across at₀ bad₀ out lanes at bad = end - at.block
 
 make-tables-requires : tie.Need-make-tables-requires invariant-loop decreases-loop
 make-tables-requires c κs = search rules
@@ -30,20 +30,20 @@ along-requires c κs =
     let bounded = sized-bounded _ _ _ at-start.requires.0 in
     (bounded.width.1, (bounded.sides.column, bounded.sides.width))
 
-rem-column : tie.Need-nonzero-rem-column invariant-loop decreases-loop
-rem-column c =
+rem-t12 : tie.Need-nonzero-rem-t12 invariant-loop decreases-loop
+rem-t12 c =
     let at-start = c.before.before.before.before in
     omega (arith, c.along.ensures.0, some _ (sized-bounded _ _ _ at-start.requires.0))
 
-div_row : tie.Need-nonzero-div-row invariant-loop decreases-loop
-div_row c =
+div-t13 : tie.Need-nonzero-div-t13 invariant-loop decreases-loop
+div-t13 c =
     let at-start = c.before.before.before.before in
     omega (arith, c.along.ensures.0, some _ (sized-bounded _ _ _ at-start.requires.0))
 
 loop-holds : tie.Need-loop-init invariant-loop decreases-loop
 loop-holds c =
     let at-start = c.before.before.before.before in
-    painting-first _ _ _ at-start.args.first _ _ _ _ (sized-bounded _ _ _ at-start.requires.0) at-start.requires.1.0 c.along.ensures.0 c.along.ensures.1 refl
+    painting-first _ _ at-start.args.first _ _ _ _ (sized-bounded _ _ _ at-start.requires.0) at-start.requires.1.0 c.along.ensures.0 c.along.ensures.1 refl
 
 paint-block-requires : tie.Need-paint-block-requires invariant-loop decreases-loop
 paint-block-requires c κs =
@@ -51,7 +51,7 @@ paint-block-requires c κs =
     let after-make-tables = c.before.before.before.before.before.before.before.before.before in
     let at-start = c.before.before.before.before.before.before.before.before.before.before.before.before in
     let inside : turn.at.block < total_of at-start.args.m = omega (arith, at-start.requires.1.1) in
-    (lent _ after-make-tables.make-tables.ensures, (same-sized _ _ _ _ at-start.requires.0 (ap length turn.invariant.painted ∙ length-painted _ _ _ _ _ _), (inside, (turn.invariant.place, turn.invariant.room))))
+    (lent _ after-make-tables.make-tables.ensures, (same-sized _ _ _ _ at-start.requires.0 (ap length turn.invariant.painted ∙ length-painted _ _ _ _ _), (inside, (turn.invariant.place, turn.invariant.room))))
 
 bad-of-requires : tie.Need-bad-of-requires invariant-loop decreases-loop
 bad-of-requires c κs = search rules
@@ -74,13 +74,13 @@ loop-again c =
     let after-paint-block = c.before.before.before.before in
     let turn = c.before.before.before.before.before.before.before.before.before.before.before.before.loop in
     let at-start = c.before.before.before.before.before.before.before.before.before.before.before.before.before.before.before.before.before in
-    painting-next _ _ _ _ _ _ _ _ _ _ _ turn.invariant _ _ _ _ _ (sized-bounded _ _ _ at-start.requires.0) (omega arith) c.next.ensures c.before.bad-of.ensures after-paint-block.paint-block.ensures
+    painting-next _ _ _ _ _ _ _ _ _ _ turn.invariant _ _ _ _ _ (sized-bounded _ _ _ at-start.requires.0) (omega arith) c.next.ensures c.before.bad-of.ensures after-paint-block.paint-block.ensures
 
 same_length : tie.Need-same-length invariant-loop decreases-loop
-same_length c = ap length c.before.before.loop.invariant.painted ∙ length-painted _ _ _ _ _ _
+same_length c = ap length c.before.before.loop.invariant.painted ∙ length-painted _ _ _ _ _
 
 returns : tie.Need-returns invariant-loop decreases-loop
-returns c = painting-last _ _ _ _ _ _ _ _ _ _ _ c.before.before.loop.invariant (omega arith)
+returns c = painting-last _ _ _ _ _ _ _ _ _ _ c.before.before.loop.invariant (omega arith)
 
 pub paint-blocks-spec : {M : Type 1} → statement M
 paint-blocks-spec =
@@ -90,8 +90,8 @@ paint-blocks-spec =
     decreases-loop
     make-tables-requires
     along-requires
-    rem-column
-    div_row
+    rem-t12
+    div-t13
     loop-holds
     paint-block-requires
     bad-of-requires

@@ -10,9 +10,6 @@ use Rattle.params_map.proofs.decode_block_map.Tie as tie
 is-void-requires : tie.Need-is-void-requires
 is-void-requires c κs = search rules
 
-void-verdict-requires : tie.Need-void-verdict-requires
-void-verdict-requires c κs = search rules
-
 no-map-requires : tie.Need-no-map-requires
 no-map-requires c κs = search rules
 
@@ -54,7 +51,6 @@ decode-block-map-spec =
     tie.close
     (tie.spec
     is-void-requires
-    void-verdict-requires
     no-map-requires
     returns
     low-config-requires

@@ -37,7 +37,7 @@ loop-less c = search rules
 loop-again : tie.Need-loop-preserved invariant-loop decreases-loop
 loop-again c =
     let l = c.before.before.loop in
-    (search rules, put-turn _ 0 l.k _ _ _ l.invariant.1 (omega arith) c.word-at.ensures)
+    (search rules, put-turn _ 0 l.k _ _ _ l.invariant.1 (omega arith) c.word_at.ensures)
 
 returns : tie.Need-returns invariant-loop decreases-loop
 unfolding stored_words

@@ -1,15 +1,6 @@
-//! Blocks of all kinds by a fixed rule and by hand, the options of both readings, and channels bit for bit.
+//! Blocks of all kinds by a fixed rule, and channels bit for bit.
 
-// each test uses some of it
-#![allow(dead_code)]
-
-use astc::{Channel, Options, Reading};
-
-/// The options of the crate's reading.
-pub const CRATE: Options = Options::new();
-
-/// The options of the standard's reading.
-pub const STANDARD: Options = Options::new().with_reading(Reading::Standard);
+use astc::Channel;
 
 /// Numbers by a fixed rule.
 pub struct Random(u64);
@@ -42,16 +33,6 @@ pub fn blocks(random: &mut Random, count: usize) -> Vec<u8> {
         data.extend(block);
     }
     data
-}
-
-/// A legal block of one partition with this endpoint mode and at most eight endpoint values, which it holds in eight bits each. Its
-/// weights are all 0, so that each texel is the first endpoint.
-pub fn ordinary(mode: u128, values: &[u8]) -> [u8; 16] {
-    let values = (17..)
-        .step_by(8)
-        .zip(values)
-        .map(|(at, &v)| u128::from(v) << at);
-    (0x42 | mode << 13 | values.sum::<u128>()).to_le_bytes()
 }
 
 /// Whether each channel is a float, and its number bit for bit.

@@ -25,7 +25,7 @@ fn ratio(kind: Kind, (bw, bh): (usize, usize), runs: usize) -> Result<f64, Strin
         let pairs = data.chunks(16).zip(ours.chunks_mut(texels));
         let time = timed(|| {
             pairs.for_each(|(block, words)| {
-                black_box(archive::decode_block(None, block, bw, bh, words));
+                black_box(archive::decode_block(block, bw, bh, words));
             })
         });
         best[0] = time.min(best[0]);

@@ -44,7 +44,7 @@ fn paint(data: &[u8], largest: Shape, part: usize, out: &mut [u32]) -> Result<()
     };
     let images = data.chunks_exact(16 * shape.blocks());
     for (data, out) in images.zip(out.chunks_exact_mut(shape.pixels())) {
-        match archive::decode_image(None, data, shape, out) {
+        match archive::decode_image(data, shape, out) {
             0 => {}
             answer => return Err(format!("an image of many blocks has the answer {answer}")),
         }

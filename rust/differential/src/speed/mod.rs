@@ -1,7 +1,6 @@
 //! How fast the archive paints images, beside the original and, where it was there to build with, astcenc's library on one thread:
 //! all in one process, on the same images, by processor time, best of some runs; and as floats beside astcenc. Also how the time grows
-//! with the blocks, what a second thread gains, how much stack the functions use, and how fast the standard's reading is beside the crate's,
-//! in which all else is timed.
+//! with the blocks, what a second thread gains, and how much stack the functions use.
 
 mod calls;
 mod drawing;
@@ -11,7 +10,6 @@ mod kinds;
 mod linear;
 mod pictures;
 mod race;
-mod readings;
 mod rival;
 mod stack;
 mod threads;
@@ -35,11 +33,10 @@ enum Part {
     Linear,
     Threads,
     Stack,
-    Readings,
 }
 
 impl Part {
-    const ALL: [Part; 9] = [
+    const ALL: [Part; 8] = [
         Part::Pictures,
         Part::Hdr,
         Part::Floats,
@@ -48,7 +45,6 @@ impl Part {
         Part::Linear,
         Part::Threads,
         Part::Stack,
-        Part::Readings,
     ];
 
     fn name(self) -> &'static str {
@@ -61,7 +57,6 @@ impl Part {
             Part::Linear => "linear",
             Part::Threads => "threads",
             Part::Stack => "stack",
-            Part::Readings => "readings",
         }
     }
 
@@ -75,7 +70,6 @@ impl Part {
             Part::Linear => linear::measure(),
             Part::Threads => threads::measure(3 * runs).map(|()| Vec::new()),
             Part::Stack => Ok(stack::measure()),
-            Part::Readings => readings::measure(runs),
         }
     }
 }

@@ -64,8 +64,6 @@ fn bands(data: &[u8], shape: Shape, rows: usize) -> impl Iterator<Item = Band<'_
 #[derive(Clone, Copy, PartialEq, Eq)]
 pub enum Decoder {
     Ours,
-    /// Ours in the standard's reading.
-    Standard,
     Original,
     Astcenc,
 }

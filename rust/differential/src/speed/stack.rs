@@ -6,7 +6,7 @@ use crate::screen::progress;
 use judge::archive;
 use model::blocks::Legal;
 use model::random::Random;
-use model::{Reading, Shape, FOOTPRINTS};
+use model::{Shape, FOOTPRINTS};
 use std::ffi::{c_int, c_ulong, c_void};
 use std::hint::black_box;
 use std::ptr;
@@ -107,73 +107,53 @@ fn images() -> Vec<(Vec<u8>, Shape)> {
     images
 }
 
-/// What a function does with the block of a footprint.
-type OfBlock<'a> = dyn FnMut(&[u8], usize, usize) -> u32 + 'a;
-
-/// The bytes of stack that a function of blocks uses on the blocks of all images.
-fn of_blocks(images: &[(Vec<u8>, Shape)], function: &mut OfBlock) -> usize {
-    used(&mut || {
-        for (data, shape) in images {
-            for block in data.chunks(16) {
-                black_box(function(block, shape.bw, shape.bh));
-            }
-        }
-    })
-}
-
-/// The bytes of stack that the functions without options use, or those with them.
-fn stacks(images: &[(Vec<u8>, Shape)], options: Option<u32>) -> [usize; 4] {
+/// The bytes of stack that each function uses, by name.
+fn functions() -> [(&'static str, usize); 5] {
+    let images = images();
     let room = images.iter().map(|(_, shape)| shape.pixels()).max();
     let out = &mut vec![0; room.expect("there are images")];
     let (map, moved) = (&mut [0; 9], &mut [0; 3]);
-    let block = of_blocks(images, &mut |block, bw, bh| {
-        archive::decode_block(options, block, bw, bh, out)
-    });
-    let map = of_blocks(images, &mut |block, bw, bh| {
-        archive::block_map(options, block, bw, bh, map)
-    });
-    let image = used(&mut || {
-        for (data, shape) in images {
-            black_box(archive::decode_image(options, data, *shape, out));
-        }
-    });
-    let step = used(&mut || {
-        for (data, shape) in images {
-            for next in (0..shape.blocks()).step_by(3) {
-                let step = (next, 3);
-                black_box(archive::image_step(options, data, *shape, step, out, moved));
+    let block = used(&mut || {
+        for (data, shape) in &images {
+            for block in data.chunks(16) {
+                black_box(archive::decode_block(block, shape.bw, shape.bh, out));
             }
         }
     });
-    [block, map, image, step]
-}
-
-/// The bytes of stack that the channels of blocks use in a reading.
-fn of_channels(images: &[(Vec<u8>, Shape)], reading: Reading) -> usize {
+    let map = used(&mut || {
+        for (data, shape) in &images {
+            for block in data.chunks(16) {
+                black_box(archive::block_map(block, shape.bw, shape.bh, map));
+            }
+        }
+    });
     let (numbers, marks) = (&mut [0; 4 * 144], &mut [0; 144]);
-    of_blocks(images, &mut |block, bw, bh| {
-        archive::block_channels(reading.options(), block, bw, bh, numbers, marks)
-    })
-}
-
-/// The bytes of stack that each function uses, by name; those with options in the standard's reading.
-fn functions() -> [(&'static str, usize); 9] {
-    let images = &images();
-    let [block, map, image, step] = stacks(images, None);
-    let standard = Reading::Standard;
-    let [block_with, map_with, image_with, step_with] = stacks(images, Some(standard.options()));
-    let readings = [Reading::Crate, standard];
-    let channels = readings.map(|reading| of_channels(images, reading));
+    let channels = used(&mut || {
+        for (data, shape) in &images {
+            for block in data.chunks(16) {
+                let (bw, bh) = (shape.bw, shape.bh);
+                black_box(archive::block_channels(0, block, bw, bh, numbers, marks));
+            }
+        }
+    });
+    let image = used(&mut || {
+        for (data, shape) in &images {
+            black_box(archive::decode_image(data, *shape, out));
+        }
+    });
+    let step = used(&mut || {
+        for (data, shape) in &images {
+            for next in (0..shape.blocks()).step_by(3) {
+                black_box(archive::image_step(data, *shape, next, 3, out, moved));
+            }
+        }
+    });
     [
         ("astc_decode_block", block),
         ("astc_block_map", map),
-        ("astc_block_channels", channels[0].max(channels[1])),
+        ("astc_block_channels", channels),
         ("astc_decode_image", image),
         ("astc_image_step", step),
-        ("astc_decode_block_with", block_with),
-        ("astc_block_map_with", map_with),
-        ("astc_decode_image_with", image_with),
-        ("astc_image_step_with", step_with),
     ]
 }
 
@@ -182,7 +162,7 @@ pub fn measure() -> Vec<Mark> {
     say!("\nbytes of stack, at most, over blocks and images of all kinds at all footprints");
     let functions = functions();
     for (name, bytes) in functions {
-        say!("{name:<24}{bytes:>6}");
+        say!("{name:<20}{bytes:>6}");
     }
     let largest = most(&functions.map(|(_, bytes)| bytes as f64));
     vec![Mark::at_most("bytes of stack, most", largest, MOST as f64)]

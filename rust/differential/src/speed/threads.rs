@@ -37,7 +37,7 @@ fn times((bw, bh): (usize, usize), runs: usize) -> Result<[Duration; 3], String>
     for run in 1..=runs {
         progress(|| format!("{bw}x{bh}, run {run} of {runs}"));
         let mut number = 0;
-        let time = taken(|| number = archive::decode_image(None, &data, shape, &mut whole));
+        let time = taken(|| number = archive::decode_image(&data, shape, &mut whole));
         best[0] = time.min(best[0]);
         for threads in [1, 2] {
             let mut outcome = Ok(());

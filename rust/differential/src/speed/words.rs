@@ -76,7 +76,7 @@ impl Painters for Words<'_> {
             (Decoder::Ours, _) => {
                 let words = &mut canvas.ours[pixels];
                 let mut answer = 0;
-                let time = timed(|| answer = archive::decode_image(None, data, shape, words));
+                let time = timed(|| answer = archive::decode_image(data, shape, words));
                 match answer {
                     0 => Ok(time),
                     _ => Err(format!("our answer is {answer}")),
@@ -93,7 +93,6 @@ impl Painters for Words<'_> {
                 Ok(timed(|| rival.paint(data, shape, bytes)))
             }
             (Decoder::Astcenc, None) => Err("astcenc is not there".into()),
-            (Decoder::Standard, _) => Err("the standard's reading is no rival".into()),
         }
     }
 

@@ -91,17 +91,17 @@ returns c =
     let at-if1 = after-rgb-of.before.before.before.before in
     c.set-endpoint-hdr.ensures ∙ rw (c.before.rgb-of2.ensures, after-rgb-of.rgb-of.ensures, eq-eqb _ _ at-if1.if1.true)
 
-mul-mode : tie.Need-overflow-mul-mode
-mul-mode c = search rules
+mul-parts-of-eleven : tie.Need-overflow-mul-parts-of-eleven
+mul-parts-of-eleven c = search rules
 
-add-mode : tie.Need-overflow-add-mode
-add-mode c = search rules
+add-parts-of-eleven : tie.Need-overflow-add-parts-of-eleven
+add-parts-of-eleven c = search rules
 
-mul-mode-2 : tie.Need-overflow-mul-mode-2
-mul-mode-2 c = search rules
+mul-parts-of-eleven-2 : tie.Need-overflow-mul-parts-of-eleven-2
+mul-parts-of-eleven-2 c = search rules
 
-add-mode-2 : tie.Need-overflow-add-mode-2
-add-mode-2 c = search rules
+add-parts-of-eleven-2 : tie.Need-overflow-add-parts-of-eleven-2
+add-parts-of-eleven-2 c = search rules
 
 parts-of-eleven-requires : tie.Need-parts-of-eleven-requires
 parts-of-eleven-requires c κs =
@@ -131,7 +131,7 @@ returns-2 c =
     let after-parts-of-eleven = after-first-eleven.before in
     let at-if1 = after-parts-of-eleven.before.before.before.before in
     let at-start = at-if1.before.before.before in
-    eleven-out _ _ _ _ _ _ _ _ _ (bytes at-start) at-if1.if1.false after-parts-of-eleven.parts-of-eleven.ensures.0 after-first-eleven.first-eleven.ensures after-swap.swap.ensures after-second-eleven.second-eleven.ensures c.before.swap2.ensures c.set-endpoint-hdr2.ensures
+    eleven-out _ _ _ _ _ _ _ _ (bytes at-start) at-if1.if1.false after-parts-of-eleven.parts-of-eleven.ensures.0 after-first-eleven.first-eleven.ensures after-swap.swap.ensures after-second-eleven.second-eleven.ensures c.before.swap2.ensures c.set-endpoint-hdr2.ensures
 
 pub decode-endpoints-hdr11-spec : {M : Type 1} → statement M
 decode-endpoints-hdr11-spec =
@@ -155,10 +155,10 @@ decode-endpoints-hdr11-spec =
     rgb-of-requires-2
     set-endpoint-hdr-requires
     returns
-    mul-mode
-    add-mode
-    mul-mode-2
-    add-mode-2
+    mul-parts-of-eleven
+    add-parts-of-eleven
+    mul-parts-of-eleven-2
+    add-parts-of-eleven-2
     parts-of-eleven-requires
     first-eleven-requires
     swap-requires

@@ -1,4 +1,5 @@
--- `program_leaves::reply_params` asks of each call what it may. Assumes nothing.
+-- `program_leaves::reply_params` meets its contract: the parameters are asked for once the block is known not to be void. Assumes nothing.
+use mathlib.Core.Path.{sym, ◌∙◌}
 use borrow.Author.Rules.{rules}
 use Rattle.program_leaves.proofs.parameters.reply_params.Statement.{statement}
 use Rattle.program_leaves.proofs.parameters.reply_params.Tie as tie
@@ -25,7 +26,7 @@ returns : tie.Need-returns
 returns c = search rules
 
 decode-block-params-requires : tie.Need-decode-block-params-requires
-decode-block-params-requires c κs = search rules
+decode-block-params-requires c κs = sym c.before.before.is-void.ensures ∙ c.before.if2.false
 
 put-params-requires : tie.Need-put-params-requires
 put-params-requires c κs = search rules

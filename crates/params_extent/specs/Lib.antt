@@ -1,3 +1,0 @@
-pub mod Extent
-pub mod ExtentLaws
-pub mod Values
