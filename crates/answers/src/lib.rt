@@ -1,4 +1,6 @@
 // The numbers that calls answer, and which of them a block gives that breaks a rule.
+#![tactic(auto)]
+
 ghost use Rattle.std.specs.Prelude.{◌≡◌};
 ghost use Rattle.answers.specs.Answers.{is_bad};
 

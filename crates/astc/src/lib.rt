@@ -1,5 +1,7 @@
 // The C surface: each function takes unchecked input and answers by number. A slice is a pointer
 // and a length.
+#![tactic(auto)]
+
 ghost use Rattle.std.specs.Prelude.{◌≡◌, length};
 ghost use Rattle.footprint.specs.Footprints.{footprint};
 ghost use Rattle.block_map.specs.Answer.{answer_of, block_map};

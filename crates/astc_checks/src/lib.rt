@@ -1,5 +1,7 @@
 // What the C surface checks of a call before the decoder does: its options, and the places for
 // where a step led.
+#![tactic(auto)]
+
 ghost use Rattle.std.specs.Prelude.{◌≡◌};
 ghost use Rattle.astc_checks.specs.Checks.{options_refusal, places_refusal};
 

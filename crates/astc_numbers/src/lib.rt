@@ -1,4 +1,6 @@
 // What C reads beside words: the map of a block as nine numbers, and where a step led as three.
+#![tactic(auto)]
+
 ghost use Rattle.std.specs.Prelude.{◌≡◌, ℕ, ◌≤◌, get_or, length};
 ghost use Rattle.laws.specs.Lists.{put};
 ghost use Rattle.footprint.specs.Footprints.{footprint};

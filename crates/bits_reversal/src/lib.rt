@@ -1,4 +1,6 @@
 // Bits in the other order, of a word and of a block, by masks and shifts.
+#![tactic(auto)]
+
 ghost use Rattle.std.specs.Prelude.{◌≡◌, ◌/◌};
 ghost use Rattle.bits.specs.Bits.{reversed};
 ghost use Rattle.bits.specs.Blocks.{value_of};

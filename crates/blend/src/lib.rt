@@ -1,4 +1,6 @@
 // Blending: a texel's channel from its endpoints and its weight, and the word of four channels.
+#![tactic(auto)]
+
 ghost use Rattle.std.specs.Prelude.{◌≡◌, ◌-◌, ◌≤◌, ◌<◌};
 ghost use Rattle.blend.specs.Blend.{expand, half_of, ldr_channel, hdr_half, hdr_channel, word_of};
 

@@ -1,5 +1,7 @@
 // The channels of a block's texels, bytes and floats: those of all texels as C reads them, and
 // those of one texel by value.
+#![tactic(auto)]
+
 ghost use Rattle.std.specs.Prelude.{◌≡◌, true, false, ◌*◌, ◌≤◌, ◌<◌, length};
 ghost use Rattle.laws.specs.Lists.{put};
 ghost use Rattle.footprint.specs.Footprints.{texels_of, listed};

@@ -1,4 +1,6 @@
 // The block whose bits sixteen bytes hold, the first byte the lowest.
+#![tactic(auto)]
+
 ghost use Rattle.std.specs.Prelude.{◌≡◌, ◌+◌, ◌*◌, ◌<◌, length};
 ghost use Rattle.bits.specs.Bits.{bytes};
 ghost use Rattle.bits.specs.Blocks.{value_of};

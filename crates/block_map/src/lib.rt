@@ -1,4 +1,6 @@
 // The map of a block of sixteen bytes, for any input.
+#![tactic(auto)]
+
 ghost use Rattle.std.specs.Prelude.{◌≡◌};
 ghost use Rattle.block_map.specs.Answer.{block_map};
 

@@ -1,4 +1,6 @@
 // A block that is not void: from its fields to the lanes of its texels.
+#![tactic(auto)]
+
 ghost use Rattle.std.specs.Prelude.{◌≡◌, true, false, replicate};
 ghost use Rattle.bits.specs.Blocks.{value_of};
 ghost use Rattle.sequence_ranges.specs.Digits.{trit_table, quint_table};

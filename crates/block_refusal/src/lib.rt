@@ -1,4 +1,6 @@
 // Whether a call for a block is refused, before the block itself is looked at.
+#![tactic(auto)]
+
 ghost use Rattle.std.specs.Prelude.{◌≡◌};
 ghost use Rattle.block_refusal.specs.Refusal.{first_refusal, block_refusal, texel_refusal};
 

@@ -1,4 +1,6 @@
 // The tables that the decoding of a block is lent, made once for all blocks of a call.
+#![tactic(auto)]
+
 ghost use Rattle.std.specs.Prelude.{◌≡◌};
 ghost use Rattle.block_tables.specs.Tables.{the_tables};
 

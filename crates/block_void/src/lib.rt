@@ -1,5 +1,7 @@
 // A void block: whether a block is one, by its answer, and its one colour, which stands in its
 // upper half, as a word and as samples.
+#![tactic(auto)]
+
 ghost use Rattle.std.specs.Prelude.{◌≡◌, ◌≤◌};
 ghost use Rattle.bits.specs.Bits.{bits_at};
 ghost use Rattle.bits.specs.Blocks.{value_of};

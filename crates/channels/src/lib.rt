@@ -1,5 +1,7 @@
 // A channel of a texel as it is answered, a byte or a float. It is decoded as a byte or as a half;
 // here are the value that is answered and the byte that it is reduced to.
+#![tactic(auto)]
+
 ghost use Rattle.std.specs.Prelude.{◌≡◌, not, T};
 ghost use Rattle.std.specs.Float.{binary32};
 ghost use Rattle.std.specs.Float.Ieee.{nan_bits, of_bits};

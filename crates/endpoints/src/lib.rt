@@ -1,4 +1,6 @@
 // The endpoints of a block's partitions, from their modes and the unquantised values.
+#![tactic(auto)]
+
 ghost use Rattle.std.specs.Prelude.{◌≡◌, ℕ, ◌≤◌, ◌<◌, get_or};
 ghost use Rattle.endpoints_colours.specs.Colours.{nothing};
 ghost use Rattle.endpoints_colours.specs.Marks.{is_hdr, marks_of};

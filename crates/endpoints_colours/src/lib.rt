@@ -1,5 +1,6 @@
 // The two endpoints of a partition, and the colours, values and alphas that they are made of: no
 // code.
+#![tactic(auto)]
 
 #[derive(Drop)]
 pub enum Mark {

@@ -1,4 +1,6 @@
 // The numbers of which endpoint mode 11 makes its colours, put together from the values' bits.
+#![tactic(auto)]
+
 ghost use Rattle.std.specs.Prelude.{◌≡◌, ◌-◌, ◌*◌, ◌/◌, ◌+◌, ◌^◌, ◌≤◌, ◌<◌, get_or};
 ghost use Rattle.endpoints_rules.specs.Hdr11.{up};
 ghost use Rattle.endpoints_hdr_eleven.specs.Hdr11Laws.{bases, differences, commons, kept, offsets, eleven_of, ElevenBounds};

@@ -1,4 +1,6 @@
 // The endpoint modes of high dynamic range.
+#![tactic(auto)]
+
 ghost use Rattle.std.specs.Prelude.{◌≡◌, ◌<◌};
 ghost use Rattle.endpoints_colours.specs.Marks.{marks_of};
 ghost use Rattle.endpoints_rules.specs.Modes.{endpoints_of};

@@ -1,4 +1,6 @@
 // The numbers of which endpoint mode 7 makes its colours, put together from the values' bits.
+#![tactic(auto)]
+
 ghost use Rattle.std.specs.Prelude.{◌≡◌, ◌*◌, ◌<◌};
 ghost use Rattle.endpoints_rules.specs.Hdr.{seven_of};
 ghost use Rattle.endpoints_hdr_seven.specs.HdrLaws.{Below, seven_by};

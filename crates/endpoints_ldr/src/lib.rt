@@ -1,4 +1,6 @@
 // The endpoint modes of low dynamic range.
+#![tactic(auto)]
+
 ghost use Rattle.std.specs.Prelude.{◌≡◌, cond, ◌*◌, ◌/◌, ◌<◌, min, eqb};
 ghost use Rattle.endpoints_colours.specs.Colours.{each, ldr};
 ghost use Rattle.endpoints_colours.specs.Marks.{marks_of};

@@ -1,5 +1,6 @@
 // The sixteen endpoint modes as the standard and the original have them: definitions, and the
 // numbers that they speak of. No code.
+#![tactic(auto)]
 
 // A colour without its alpha.
 #[derive(Drop)]

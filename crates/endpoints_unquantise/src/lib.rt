@@ -1,4 +1,6 @@
 // Encoded endpoint values brought to bytes, in loops by closed forms of the standard's rules.
+#![tactic(auto)]
+
 ghost use Rattle.std.specs.Prelude.{◌≡◌, ℕ, ◌%◌, ◌≤◌, ◌<◌, get_or, replicate};
 ghost use Rattle.laws.specs.Lists.{put};
 ghost use Rattle.lanes.specs.Lanes.{eights};

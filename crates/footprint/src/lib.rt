@@ -1,4 +1,6 @@
 // The footprint of a block: how many texels it has, by width and height.
+#![tactic(auto)]
+
 ghost use Rattle.std.specs.Prelude.{◌≡◌};
 ghost use Rattle.footprint.specs.Footprints.{one_of2, listed};
 

@@ -1,4 +1,6 @@
 // Halves, IEEE 754's binary16, as `f32`s and as bytes.
+#![tactic(auto)]
+
 ghost use Rattle.std.specs.Prelude.{◌≡◌, false, ◌<◌, ◌≤◌, min, max};
 ghost use Rattle.half.specs.Half.{half, value, product_of, hdr_byte_of, void_byte_of};
 

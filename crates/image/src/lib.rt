@@ -1,4 +1,6 @@
 // An image painted whole, or in steps by a cursor.
+#![tactic(auto)]
+
 ghost use Rattle.std.specs.Prelude.{◌≡◌, ◌+◌, ◌^◌, ◌<◌, min, length};
 ghost use Rattle.image_shape.specs.Shapes.{refusal_of};
 ghost use Rattle.image.specs.Image.{image_of, refused_at, moved_by, step_of, stepped};

@@ -1,4 +1,6 @@
 // The blocks of an image, painted one after the other by what the block promises.
+#![tactic(auto)]
+
 ghost use Rattle.std.specs.Prelude.{◌≡◌, cond, ◌+◌, ◌-◌, ◌^◌, ◌≤◌, ◌<◌, length};
 ghost use Rattle.answers.specs.Answers.{is_bad};
 ghost use Rattle.lanes.specs.Lanes.{most_lanes};

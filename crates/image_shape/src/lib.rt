@@ -1,4 +1,6 @@
 // The shape of an image, how many blocks it has, and whether an image of a shape is accepted.
+#![tactic(auto)]
+
 ghost use Rattle.std.specs.Prelude.{◌≡◌, ◌≤◌, ◌<◌};
 ghost use Rattle.image_shape.specs.Shapes.{along_of, total_of, is_side, refusal_of, step_refusal};
 ghost use Rattle.image_shape.specs.ShapeLaws.{ShapeBounds};

@@ -1,5 +1,7 @@
 // The window of a block in an image: where its pixels stand, copied from lanes or filled with one
 // word.
+#![tactic(auto)]
+
 ghost use Rattle.std.specs.Prelude.{◌≡◌, ℕ, ◌+◌, ◌*◌, ◌≤◌, ◌<◌, min, length};
 ghost use Rattle.footprint.specs.Footprints.{most_texels};
 ghost use Rattle.lanes.specs.Lanes.{joined_at};

@@ -1,5 +1,7 @@
 // Numbers of 16 bits, lanes, as loops write them for eight texels at a time: the words of texels in
 // two lanes each, which leave whole for an output, or their samples in four.
+#![tactic(auto)]
+
 ghost use Rattle.std.specs.Prelude.{◌≡◌, ℕ, ◌+◌, ◌≤◌, ◌<◌, length};
 ghost use Rattle.laws.specs.Lists.{put_at};
 ghost use Rattle.footprint.specs.Footprints.{most_texels, most_weights};

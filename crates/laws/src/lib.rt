@@ -1,1 +1,2 @@
 // Laws on lists and numbers that several layers cite: no code.
+#![tactic(auto)]

@@ -1,4 +1,6 @@
 // The parameters of a block: its answer, its configuration, its endpoint modes and their range.
+#![tactic(auto)]
+
 ghost use Rattle.std.specs.Prelude.{◌≡◌, false, ◌+◌, ◌<◌};
 ghost use Rattle.bits.specs.Blocks.{value_of};
 ghost use Rattle.params_low.specs.Low.{is_void};

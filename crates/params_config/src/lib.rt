@@ -1,5 +1,7 @@
 // What the low configuration of a block says: the grid of its weights, their range and planes, its
 // partitions and where their modes stand.
+#![tactic(auto)]
+
 ghost use Rattle.std.specs.Prelude.{◌≡◌, false, ◌*◌, ◌≤◌, ◌<◌};
 ghost use Rattle.footprint.specs.Footprints.{most_weights};
 ghost use Rattle.params_config.specs.Ranges.{cost};

@@ -1,4 +1,6 @@
 // What the first bits of a block tell: whether it is void, and its low configuration.
+#![tactic(auto)]
+
 ghost use Rattle.std.specs.Prelude.{◌≡◌};
 ghost use Rattle.bits.specs.Blocks.{value_of};
 ghost use Rattle.params_low.specs.Low.{is_void, conf_len, low_of};

@@ -1,4 +1,6 @@
 // The map of a block: where its fields stand.
+#![tactic(auto)]
+
 ghost use Rattle.std.specs.Prelude.{◌≡◌, ◌≤◌, ◌<◌};
 ghost use Rattle.footprint.specs.Footprints.{most_weights};
 ghost use Rattle.bits.specs.Blocks.{value_of};

@@ -1,5 +1,7 @@
 // The endpoint modes of a block's partitions, by the base and the mode bits that stand in the
 // block, and the values that they take.
+#![tactic(auto)]
+
 ghost use Rattle.std.specs.Prelude.{◌≡◌, ◌≤◌, ◌<◌};
 ghost use Rattle.params_modes.specs.Modes.{class_in, mode_in, mode_at, modes_of, values_to};
 ghost use Rattle.params_modes.specs.ModeLaws.{Coded};

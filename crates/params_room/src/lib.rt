@@ -1,4 +1,6 @@
 // The range of a legal block's endpoint values: the widest for which the other fields leave room.
+#![tactic(auto)]
+
 ghost use Rattle.std.specs.Prelude.{◌≡◌, ◌-◌, ◌≤◌, ◌<◌};
 ghost use Rattle.params_rules.specs.Rules.{used};
 ghost use Rattle.params_room.specs.Room.{widest, end_range};

@@ -1,4 +1,6 @@
 // The rules that a block may break, from the size of its grid to the room for its endpoints.
+#![tactic(auto)]
+
 ghost use Rattle.std.specs.Prelude.{◌≡◌};
 ghost use Rattle.params_config.specs.Bounds.{ConfigBounds};
 ghost use Rattle.params_rules.specs.Rules.{extra_len, used, end_verdict, verdict};

@@ -1,4 +1,6 @@
 // Partitions: the partition of each texel, by the ramps of a partition number.
+#![tactic(auto)]
+
 ghost use Rattle.std.specs.Prelude.{◌≡◌, ◌+◌, ◌*◌, ◌≤◌, ◌<◌, max};
 ghost use Rattle.laws.specs.Lists.{put, put_at, texels};
 ghost use Rattle.partition_ramps.specs.Held.{Gentle};

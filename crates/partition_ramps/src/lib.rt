@@ -1,4 +1,6 @@
 // The ramps of a partition number: its hash, and a start and two slopes for each partition.
+#![tactic(auto)]
+
 ghost use Rattle.std.specs.Prelude.{◌≡◌, ◌<◌, ◌≤◌};
 ghost use Rattle.partition_ramps.specs.Ramps.{hash52, by_bit, by_count, shift_x, shift_y, factor};
 ghost use Rattle.partition_ramps.specs.Held.{ramp_of};

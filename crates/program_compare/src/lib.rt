@@ -1,4 +1,6 @@
 // Words and counts held to what they should be, for the programs that compare.
+#![tactic(auto)]
+
 ghost use Rattle.std.specs.Prelude.{◌≡◌, ◌<◌, length};
 ghost use Rattle.program_compare.specs.Compare.{expected_at, differences, differs_from};
 

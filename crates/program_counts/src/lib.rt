@@ -1,4 +1,6 @@
 // Counts of 64 bits.
+#![tactic(auto)]
+
 ghost use Rattle.std.specs.Prelude.{◌≡◌, cond, ◌≤◌};
 ghost use Rattle.program_counts.specs.Counts.{more};
 

@@ -2,6 +2,8 @@
 // original. A request is 32 bytes: what is asked for, up to fifteen numbers, and a block. An answer
 // is 288 bytes; what a request does not fill is 0, and so is all of it where the numbers are out of
 // bounds.
+#![tactic(auto)]
+
 use libc::STDOUT_FILENO;
 
 mod colours;

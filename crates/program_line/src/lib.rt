@@ -1,5 +1,7 @@
 // The line of a listed block: its number, its answer, and its first texel's colour where the block
 // was painted.
+#![tactic(auto)]
+
 ghost use Rattle.std.specs.Prelude.{◌+◌, ◌≤◌, length};
 ghost use Rattle.program_text.specs.Text.{Placed};
 ghost use Rattle.program_line.specs.Line.{field_of, colour_of, line_of};

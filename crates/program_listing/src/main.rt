@@ -1,6 +1,8 @@
 // Lists blocks: a line for each record of standard input, with its number, its answer and its first
 // texel's colour. A record is 18 bytes: the width and height of a footprint, and a block. A short
 // last one has the answer 20.
+#![tactic(auto)]
+
 ghost use Rattle.std.specs.Prelude.{◌≡◌, ◌≤◌, length};
 ghost use Rattle.program_text.specs.Text.{Placed};
 ghost use Rattle.program_listing.specs.Listing.{answer_in, words_in, record_line};

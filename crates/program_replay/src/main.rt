@@ -1,6 +1,8 @@
 // Decodes a stored list of blocks anew, and counts the records whose answer or words come out
 // otherwise. A record of standard input is a footprint's width and height, the answer, the sixteen
 // bytes of a block, and for each texel a word of four bytes, the low one first.
+#![tactic(auto)]
+
 ghost use Rattle.std.specs.Prelude.{◌≡◌, ◌≤◌, ◌<◌, length};
 ghost use Rattle.program_stored.specs.Stored.{answer_in};
 ghost use Rattle.program_replay.specs.Replay.{footprint_in, replayed_in};

@@ -1,6 +1,8 @@
 // What a stored record of a block is, and how it is counted: whether a decoder gives its answer and
 // its words. Its head is a footprint's width and height, the answer, and the sixteen bytes of a
 // block; for each texel a word of four bytes, the low one first, is stored after it.
+#![tactic(auto)]
+
 ghost use Rattle.std.specs.Prelude.{◌≡◌, ◌<◌};
 ghost use Rattle.footprint.specs.Footprints.{most_texels};
 ghost use Rattle.program_stored.specs.Stored.{word_at, stored_words, texels_of, differs_from, closed_at, counted_in, record_in, answer_in};

@@ -1,5 +1,7 @@
 // Paints images in steps of many sizes, and counts the runs that come out otherwise than the image
 // painted whole.
+#![tactic(auto)]
+
 ghost use Rattle.program_strides.specs.Strides.{CursorBounds};
 
 use program_compare::MARKER;

@@ -1,4 +1,6 @@
 // A line of text that is laid out piece by piece: bytes, and numbers in decimal.
+#![tactic(auto)]
+
 ghost use Rattle.std.specs.Prelude.{◌≡◌, ◌+◌, ◌≤◌, length};
 ghost use Rattle.program_text.specs.Text.{decimal, count_line, Placed};
 

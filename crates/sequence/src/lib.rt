@@ -1,4 +1,6 @@
 // Integer sequences in a block: where they stand, upwards from a bit or downwards from its end.
+#![tactic(auto)]
+
 ghost use Rattle.std.specs.Prelude.{◌≡◌, ◌≤◌, replicate};
 ghost use Rattle.bits.specs.Bits.{bits_at, reversed};
 ghost use Rattle.bits.specs.Blocks.{value_of};

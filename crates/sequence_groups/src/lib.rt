@@ -1,5 +1,7 @@
 // One group of an integer sequence, five values with their trits or three with their quints, put
 // into an output, and zeros after the last; and what a sequence of groups is.
+#![tactic(auto)]
+
 ghost use Rattle.std.specs.Prelude.{◌≡◌, ℕ, ◌+◌, ◌*◌, ◌%◌, ◌^◌, ◌≤◌};
 ghost use Rattle.laws.specs.Lists.{put};
 ghost use Rattle.sequence_ranges.specs.Ranges.{range};

@@ -1,4 +1,6 @@
 // The values of an integer sequence of plain bits, which is given as one number, six at a time.
+#![tactic(auto)]
+
 ghost use Rattle.std.specs.Prelude.{◌≡◌, ◌+◌, ◌%◌, ◌^◌, ◌≤◌, replicate};
 ghost use Rattle.laws.specs.Lists.{put};
 ghost use Rattle.bits.specs.Blocks.{value_of};

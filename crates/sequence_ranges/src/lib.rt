@@ -1,5 +1,7 @@
 // The ranges of integer sequences: how their values are packed, the bits that a sequence takes, and
 // the tables of trits and quints.
+#![tactic(auto)]
+
 ghost use Rattle.std.specs.Prelude.{◌≡◌, ◌≤◌, ◌<◌};
 ghost use Rattle.footprint.specs.Footprints.{most_weights};
 ghost use Rattle.sequence_ranges.specs.Ranges.{range_of, most, total_of};

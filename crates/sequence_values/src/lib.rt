@@ -1,5 +1,7 @@
 // The values of an integer sequence, which is given as one number: with trits or with quints, group
 // after group, or plain.
+#![tactic(auto)]
+
 ghost use Rattle.std.specs.Prelude.{◌≡◌, ◌≤◌, replicate};
 ghost use Rattle.bits.specs.Blocks.{value_of};
 ghost use Rattle.sequence_ranges.specs.Ranges.{range, most};

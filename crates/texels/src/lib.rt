@@ -1,5 +1,7 @@
 // What the loops over texels share: where the weights of each channel start, the number of a
 // texel's partition, and one HDR channel.
+#![tactic(auto)]
+
 ghost use Rattle.std.specs.Prelude.{◌≡◌, ◌*◌, ◌≤◌, ◌<◌};
 ghost use Rattle.footprint.specs.Footprints.{most_texels};
 ghost use Rattle.blend.specs.Blend.{hdr_channel};

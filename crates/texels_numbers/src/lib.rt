@@ -1,5 +1,7 @@
 // The channels of texels as C reads them: four numbers a texel, and a byte that says which of them
 // are floats.
+#![tactic(auto)]
+
 ghost use Rattle.std.specs.Prelude.{◌≡◌, ℕ, ◌+◌, ◌*◌, ◌≤◌, ◌<◌, length};
 ghost use Rattle.laws.specs.Lists.{put};
 ghost use Rattle.footprint.specs.Footprints.{most_texels};

@@ -1,4 +1,6 @@
 // Painting: the words of a block's texels from its endpoints, weights and partitions.
+#![tactic(auto)]
+
 ghost use Rattle.std.specs.Prelude.{◌≡◌, ◌*◌, ◌≤◌, ◌<◌};
 ghost use Rattle.laws.specs.Lists.{put};
 ghost use Rattle.lanes.specs.Lanes.{lane_at, eights};

@@ -1,4 +1,6 @@
 // The samples of a texel, read from the lanes of a block.
+#![tactic(auto)]
+
 ghost use Rattle.std.specs.Prelude.{◌≡◌, ◌<◌};
 ghost use Rattle.footprint.specs.Footprints.{most_texels};
 ghost use Rattle.channels.specs.Channels.{finite as finite_of};

@@ -1,4 +1,6 @@
 // The samples of a block's texels in lanes, eight at once, one channel after the other.
+#![tactic(auto)]
+
 ghost use Rattle.std.specs.Prelude.{◌≡◌, ℕ, ◌≤◌, ◌<◌, get_or};
 ghost use Rattle.laws.specs.Lists.{put_at};
 ghost use Rattle.footprint.specs.Footprints.{most_texels};

@@ -1,4 +1,6 @@
 // The weights of a block's texels, from the encoded weights of its grid.
+#![tactic(auto)]
+
 ghost use Rattle.std.specs.Prelude.{◌≡◌, ◌&&◌, eqb, ◌+◌, ◌*◌, ◌/◌, ◌≤◌, ◌<◌, replicate};
 ghost use Rattle.laws.specs.Lists.{list_of};
 ghost use Rattle.weights_grid.specs.Grids.{count_of};

@@ -1,5 +1,7 @@
 // How a grid of weights lies in its footprint: where its texels stand between the points of the
 // grid.
+#![tactic(auto)]
+
 ghost use Rattle.std.specs.Prelude.{◌≡◌, true, ◌+◌, ◌*◌, ◌/◌, ◌≤◌, ◌<◌};
 ghost use Rattle.weights_grid.specs.Grids.{step_of, placed};
 ghost use Rattle.footprint.specs.Sides.{is_side};

@@ -1,4 +1,6 @@
 // The weights of a footprint's texels between the points of its grid, for any grid.
+#![tactic(auto)]
+
 ghost use Rattle.std.specs.Prelude.{◌≡◌, ℕ, ◌+◌, ◌*◌, ◌/◌, ◌%◌, ◌≤◌, ◌<◌, get_or, replicate};
 ghost use Rattle.laws.specs.Lists.{put, put_at, list_of};
 ghost use Rattle.weights_grid.specs.Grids.{place_of, count_of, Fits};

@@ -1,5 +1,7 @@
 // The weights of a footprint's texels where the grid has one plane and is as wide as the footprint:
 // a texel lies between two rows alone.
+#![tactic(auto)]
+
 ghost use Rattle.std.specs.Prelude.{◌≡◌, ℕ, ◌+◌, ◌*◌, ◌/◌, ◌%◌, ◌≤◌, ◌<◌, get_or, replicate};
 ghost use Rattle.laws.specs.Lists.{put, put_at};
 ghost use Rattle.weights_grid.specs.Grids.{Fits};

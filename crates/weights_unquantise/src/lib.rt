@@ -1,4 +1,6 @@
 // Encoded weights brought to 0..64, by their range.
+#![tactic(auto)]
+
 ghost use Rattle.std.specs.Prelude.{◌≡◌, ℕ, ◌+◌, ◌*◌, ◌/◌, ◌%◌, ◌≤◌, ◌<◌, get_or};
 ghost use Rattle.weights_unquantise.specs.Unquantise.{raised, weight_of};
 ghost use Rattle.weights_unquantise.specs.Forms.{each, plain_of, sum_of, turned, mixed_of};
