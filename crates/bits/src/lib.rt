@@ -5,7 +5,7 @@ ghost use Rattle.std.specs.Prelude.{◌≡◌, ◌/◌, ◌%◌, ◌^◌, ◌≤
 ghost use Rattle.bits.specs.Bits.{bits_at};
 ghost use Rattle.bits.specs.Blocks.{value_of};
 
-#[derive(Drop)]
+#[derive(Clone, Copy)]
 pub struct Block {
     pub lo: u64,
     pub hi: u64,

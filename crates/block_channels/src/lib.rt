@@ -18,7 +18,7 @@ use footprint::Footprint;
 use lanes::{Form, LANES};
 
 // A block's answer, and the channels of one of its texels; a refusal has bytes of 0.
-#[derive(Drop)]
+#[derive(Clone, Copy)]
 pub struct Answered {
     pub answer: usize,
     pub texel: Texel,

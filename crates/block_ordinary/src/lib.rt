@@ -88,7 +88,7 @@ fn partition_of(out: &mut [u8; TEXELS], p: Params, f: Footprint)
 }
 
 // What is known of a legal ordinary block before its texels are painted.
-#[derive(Drop)]
+#[derive(Clone, Copy)]
 pub struct BlockData {
     pub n: usize,
     pub parts: usize,

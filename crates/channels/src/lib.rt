@@ -8,21 +8,21 @@ ghost use Rattle.std.specs.Float.Ieee.{nan_bits, of_bits};
 ghost use Rattle.channels.specs.Channels.{channel_of, texel_of, byte_of, reduced_by};
 
 // A channel as it is decoded: a byte, or the pattern of a half.
-#[derive(Drop)]
+#[derive(Clone, Copy)]
 pub enum Sample {
     Byte(u8),
     Half(u16),
 }
 
 // A channel as it is answered.
-#[derive(Drop)]
+#[derive(Clone, Copy)]
 pub enum Channel {
     Byte(u8),
     Float(f32),
 }
 
 // The four channels of a texel as they are decoded.
-#[derive(Drop)]
+#[derive(Clone, Copy)]
 pub struct Samples {
     pub r: Sample,
     pub g: Sample,
@@ -31,7 +31,7 @@ pub struct Samples {
 }
 
 // The four channels of a texel as they are answered.
-#[derive(Drop)]
+#[derive(Clone, Copy)]
 pub struct Texel {
     pub r: Channel,
     pub g: Channel,
@@ -41,7 +41,7 @@ pub struct Texel {
 
 // By whose rule a float is reduced to a byte: that of an ordinary block's HDR channels, or that of
 // a void block's colour.
-#[derive(Drop)]
+#[derive(Clone, Copy)]
 pub enum Rule {
     Ordinary,
     Void,

@@ -2,14 +2,14 @@
 // code.
 #![tactic(auto)]
 
-#[derive(Drop)]
+#[derive(Clone, Copy)]
 pub enum Mark {
     Ldr,
     Hdr,
 }
 
 // The two endpoints of one partition. LDR ones lie in 0..255, HDR ones in 0..4095.
-#[derive(Drop)]
+#[derive(Clone, Copy)]
 pub struct Endpoints {
     pub r0: u16,
     pub g0: u16,
@@ -24,7 +24,7 @@ pub struct Endpoints {
 }
 
 // One endpoint: a colour with its alpha.
-#[derive(Drop)]
+#[derive(Clone, Copy)]
 pub struct Rgba {
     pub r: u16,
     pub g: u16,
@@ -33,7 +33,7 @@ pub struct Rgba {
 }
 
 // The values v0 to v7 of which a mode makes its endpoints. A mode takes the first 2, 4, 6 or 8.
-#[derive(Drop)]
+#[derive(Clone, Copy)]
 pub struct Values {
     pub v0: u8,
     pub v1: u8,
@@ -46,7 +46,7 @@ pub struct Values {
 }
 
 // The alphas of two endpoints, and their mark.
-#[derive(Drop)]
+#[derive(Clone, Copy)]
 pub struct Alphas {
     pub first: u16,
     pub second: u16,

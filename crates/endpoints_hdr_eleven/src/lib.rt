@@ -9,7 +9,7 @@ use endpoints_colours::Values;
 
 // The numbers of mode 11: the base, two differences, what both endpoints differ by, and two
 // offsets.
-#[derive(Drop)]
+#[derive(Clone, Copy)]
 pub struct Eleven {
     pub a: u16,
     pub b0: u16,

@@ -11,7 +11,7 @@ ghost use Rattle.endpoints_ldr.specs.LdrLaws.{transferred, opaque_alphas, transf
 use endpoints_colours::{Alphas, Endpoints, Mark, Rgba, Values};
 
 // A base that has taken the top bit of its offset, and what is left of the offset, with 32 added.
-#[derive(Drop)]
+#[derive(Clone, Copy)]
 pub struct Transfer {
     pub base: u16,
     pub offset: u16,

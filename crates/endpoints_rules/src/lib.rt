@@ -3,7 +3,7 @@
 #![tactic(auto)]
 
 // A colour without its alpha.
-#[derive(Drop)]
+#[derive(Clone, Copy)]
 pub struct Rgb {
     pub r: u16,
     pub g: u16,
@@ -11,7 +11,7 @@ pub struct Rgb {
 }
 
 // The numbers of mode 7: red, green and blue or their differences to red, and the scale.
-#[derive(Drop)]
+#[derive(Clone, Copy)]
 pub struct Seven {
     pub r: u16,
     pub g: u16,

@@ -10,7 +10,7 @@ ghost use Rattle.endpoints_unquantise.specs.Closed.{flipped, unpacked, copied, N
 
 // The rule by which a range of trits or quints becomes bytes. Value d * 2^bits + m, with x the bits
 // of m above the lowest, is d * by + x * spread + (x >> over) before the lowest bit is brought in.
-#[derive(Drop)]
+#[derive(Clone, Copy)]
 pub struct Rule {
     pub bits: u16,
     pub by: u16,
@@ -19,7 +19,7 @@ pub struct Rule {
 }
 
 // The rule by which the bits of a plain value are repeated: v * spread + (v >> over).
-#[derive(Drop)]
+#[derive(Clone, Copy)]
 pub struct Repeat {
     pub spread: u16,
     pub over: u16,

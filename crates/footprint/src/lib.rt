@@ -10,7 +10,7 @@ pub const TEXELS: usize = 144;
 // The weights of the largest footprint: one for each texel in each of two planes.
 pub const WEIGHTS: usize = 288;
 
-#[derive(Drop)]
+#[derive(Clone, Copy)]
 pub struct Footprint {
     pub width: usize,
     pub height: usize,

@@ -8,7 +8,7 @@ ghost use Rattle.image.specs.Image.{image_of, refused_at, moved_by, step_of, ste
 use image_shape::Shape;
 
 // An image on its way: the blocks before `next` are painted.
-#[derive(Drop)]
+#[derive(Clone, Copy)]
 pub struct Cursor {
     pub shape: Shape,
     pub next: usize,
@@ -16,7 +16,7 @@ pub struct Cursor {
 
 // What a step comes to: its answer, the cursor for the next one, the blocks painted, and how many
 // of them break a rule.
-#[derive(Drop)]
+#[derive(Clone, Copy)]
 pub struct Step {
     pub answer: usize,
     pub cursor: Cursor,

@@ -15,7 +15,7 @@ use image_shape::Shape;
 use lanes::{Form, LANES};
 
 // A block of an image: its number, its column and its row.
-#[derive(Drop)]
+#[derive(Clone, Copy)]
 pub struct Spot {
     pub block: usize,
     pub column: usize,

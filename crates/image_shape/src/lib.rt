@@ -11,7 +11,7 @@ use footprint::Footprint;
 pub const LONGEST_SIDE: usize = 4096;
 
 // The size of an image and the footprint of its blocks.
-#[derive(Drop)]
+#[derive(Clone, Copy)]
 pub struct Shape {
     pub width: usize,
     pub height: usize,

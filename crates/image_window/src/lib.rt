@@ -47,7 +47,7 @@ fn place(m: Shape, y: usize, x: usize) -> usize
 
 // Where a block's pixels stand: the place of the first, and how many columns and rows of them lie
 // in the image.
-#[derive(Drop)]
+#[derive(Clone, Copy)]
 pub struct Window {
     pub at: usize,
     pub columns: usize,

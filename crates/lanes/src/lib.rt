@@ -11,7 +11,7 @@ ghost use Rattle.lanes.specs.Lanes.{eights, joined_at};
 pub const LANES: usize = 576;
 
 // What the lanes of a block are to hold: the words of its texels, or the samples of their channels.
-#[derive(Drop)]
+#[derive(Clone, Copy)]
 pub enum Form {
     Words,
     Samples,

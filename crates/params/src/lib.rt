@@ -15,7 +15,7 @@ use params_config::Config;
 
 // The mode code is the mode bits as they stand in a block, as one number; the base that goes with
 // it stands in the configuration.
-#[derive(Drop)]
+#[derive(Clone, Copy)]
 pub struct Params {
     pub answer: usize,
     pub config: Config,

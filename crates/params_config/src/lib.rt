@@ -7,14 +7,14 @@ ghost use Rattle.footprint.specs.Footprints.{most_weights};
 ghost use Rattle.params_config.specs.Ranges.{cost};
 ghost use Rattle.params_config.specs.Config.{is_reserved, grid_low, grid_high, grid_of, weight_r, weight_h, weight_d, lacks_dh, parts_of, extra_mode_bits, partitions_of, config_of};
 
-#[derive(Drop)]
+#[derive(Clone, Copy)]
 pub struct Grid {
     pub width: usize,
     pub height: usize,
 }
 
 // What the low configuration says of the partitions.
-#[derive(Drop)]
+#[derive(Clone, Copy)]
 pub struct Partitions {
     pub parts: usize,
     pub number: usize,
@@ -28,7 +28,7 @@ pub struct Partitions {
 // What the low configuration says of a block whose mode is not reserved. The base and the low modes
 // are the endpoint modes as they stand in it: the base is 0 where one mode serves all partitions,
 // and the low modes are the four lowest of the mode bits.
-#[derive(Drop)]
+#[derive(Clone, Copy)]
 pub struct Config {
     pub width: usize,
     pub height: usize,

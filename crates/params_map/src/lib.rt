@@ -15,7 +15,7 @@ use params_config::Config;
 
 // The answer of a block and, where it is legal, start and length of each of its fields and the
 // largest value of its endpoints' range.
-#[derive(Drop)]
+#[derive(Clone, Copy)]
 pub struct BlockMap {
     pub answer: usize,
     pub top: usize,

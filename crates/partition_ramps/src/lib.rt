@@ -7,7 +7,7 @@ ghost use Rattle.partition_ramps.specs.Held.{ramp_of};
 
 // A ramp over a footprint: its value at the first texel, and its slopes along a row and down a
 // column.
-#[derive(Drop)]
+#[derive(Clone, Copy)]
 pub struct Ramp {
     pub start: u16,
     pub along: u16,

@@ -36,7 +36,7 @@ pub fn count_differences(words: &[u32], whole: &[u32], n: usize) -> usize
 
 // What a walk in steps came to: whether it still moved, the blocks painted, those that break a
 // rule, and the steps refused.
-#[derive(Drop)]
+#[derive(Clone, Copy)]
 pub struct Came {
     pub moving: bool,
     pub painted: usize,

@@ -31,7 +31,7 @@ fn footprint_of(head: &[u8; 19]) -> Footprint
 }
 
 // How the reading of a record went.
-#[derive(Drop)]
+#[derive(Clone, Copy)]
 pub enum Record {
     Whole,
     Malformed,

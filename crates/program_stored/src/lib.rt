@@ -66,7 +66,7 @@ fn differs(head: &[u8; 19], stored: &[u8; 576], answer: usize, words: &[u32; TEX
 }
 
 // What the records so far came to, and whether another may follow.
-#[derive(Drop)]
+#[derive(Clone, Copy)]
 pub struct Tally {
     pub running: bool,
     pub blocks: usize,

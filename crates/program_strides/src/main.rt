@@ -11,7 +11,7 @@ mod shapes;
 mod walks;
 
 // What the steps over an image came to so far, and whether the last one moved the cursor.
-#[derive(Drop)]
+#[derive(Clone, Copy)]
 pub struct Walk {
     pub moving: bool,
     pub cursor: image::Cursor,
@@ -22,7 +22,7 @@ pub struct Walk {
 }
 
 // What the images so far came to.
-#[derive(Drop)]
+#[derive(Clone, Copy)]
 pub struct Tally {
     pub images: usize,
     pub runs: usize,

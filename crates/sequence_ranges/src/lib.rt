@@ -13,7 +13,7 @@ use tables::{QUINTS_TABLE, TRITS_TABLE};
 
 // How the values of a range are packed: each in its own bits alone, or five with their trits, or
 // three with their quints.
-#[derive(Drop)]
+#[derive(Clone, Copy)]
 pub enum Kind {
     Plain,
     Trits,
@@ -21,7 +21,7 @@ pub enum Kind {
 }
 
 // A range of values: how they are packed, and the plain bits of each.
-#[derive(Drop)]
+#[derive(Clone, Copy)]
 pub struct Range {
     pub kind: Kind,
     pub bits: usize,

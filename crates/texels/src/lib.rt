@@ -11,7 +11,7 @@ ghost use Rattle.texels.specs.Kinds.{starts_of, Ahead, either_of, any_of};
 use footprint::TEXELS;
 
 // Where the weights of each channel start.
-#[derive(Drop)]
+#[derive(Clone, Copy)]
 pub struct Starts {
     pub r: usize,
     pub g: usize,

@@ -17,7 +17,7 @@ use lanes::{LANES, eights};
 use texels::{any, either, hdr_channel, starts_of};
 
 // One number for each of four partitions.
-#[derive(Drop)]
+#[derive(Clone, Copy)]
 pub struct Four {
     pub a: u16,
     pub b: u16,
@@ -26,14 +26,14 @@ pub struct Four {
 }
 
 // The numbers of one channel in each partition, at both ends.
-#[derive(Drop)]
+#[derive(Clone, Copy)]
 pub struct Numbers {
     pub first: Four,
     pub second: Four,
 }
 
 // The numbers of red, green, blue and alpha in each partition.
-#[derive(Drop)]
+#[derive(Clone, Copy)]
 pub struct Channels {
     pub r: Numbers,
     pub g: Numbers,

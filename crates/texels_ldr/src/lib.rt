@@ -17,7 +17,7 @@ use lanes::{LANES, eights};
 use texels::{Starts, any, either, starts_of};
 
 // The weights of a texel's channels.
-#[derive(Drop)]
+#[derive(Clone, Copy)]
 pub struct Weights {
     pub r: u16,
     pub g: u16,

@@ -12,7 +12,7 @@ use channels::{Sample, Samples};
 use lanes::LANES;
 
 // The four numbers of a texel.
-#[derive(Drop)]
+#[derive(Clone, Copy)]
 pub struct Four {
     pub r: u32,
     pub g: u32,

@@ -15,7 +15,7 @@ use lanes::{LANES, eights};
 use texels::{any, starts_of};
 
 // One channel's ends in a partition, and 1 where they are HDR, else 0.
-#[derive(Drop)]
+#[derive(Clone, Copy)]
 pub struct Pair {
     pub hdr: u16,
     pub first: u16,
@@ -23,7 +23,7 @@ pub struct Pair {
 }
 
 // One channel's ends in each of four partitions.
-#[derive(Drop)]
+#[derive(Clone, Copy)]
 pub struct Pairs {
     pub a: Pair,
     pub b: Pair,

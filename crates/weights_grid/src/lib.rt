@@ -9,7 +9,7 @@ ghost use Rattle.footprint.specs.Sides.{is_side};
 use footprint::Footprint;
 
 // How a grid lies in a footprint.
-#[derive(Drop)]
+#[derive(Clone, Copy)]
 pub struct Grid {
     pub footprint: Footprint,
     pub width: usize,
