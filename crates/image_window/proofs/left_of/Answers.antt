@@ -1,0 +1,12 @@
+-- `image_window::left_of`: the blocks of a row start inside the image, so that the product fits. Assumes nothing.
+use Rattle.image_window.specs.Places.{starts-inside}
+use Prim.Native.Nat.{◌*◌, ◌<◌}
+use mathlib.Core.Path.{refl}
+use native.Mathlib.Omega.{arith}
+use Rattle.image_window.proofs.left_of.Goals as goal
+
+pub overflow_mul-result : goal.overflow_mul-result
+overflow_mul-result c = let l : c.args.x * c.args.m.footprint.width < c.args.m.width = starts-inside c.args.m.width c.args.m.footprint.width c.args.x c.requires.0.sides.column c.requires.1 in omega (arith, l, c.requires.0.width.1)
+
+pub returns : goal.returns
+returns c = (refl, starts-inside c.args.m.width c.args.m.footprint.width c.args.x c.requires.0.sides.column c.requires.1)

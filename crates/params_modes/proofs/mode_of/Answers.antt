@@ -1,0 +1,10 @@
+-- `params_modes::mode_of` meets its contract: a law for each of its two ways. Assumes nothing.
+use Rattle.params_modes.specs.ModeLaws.{mode-alone, mode-based}
+use borrow.Author.Rules.{rules}
+use Rattle.params_modes.proofs.mode_of.Goals as goal
+
+pub returns-then-base-eq0 : goal.returns-then-base-eq0
+returns-then-base-eq0 c = mode-alone _ _ c.args.i c.requires.0 c.args.parts c.if-base-eq0.true
+
+pub returns : goal.returns
+returns c = mode-based _ _ c.args.i c.requires.0 c.args.parts _ c.if-base-eq0.false c.class_of.ensures

@@ -1,0 +1,16 @@
+-- Each turn fills one word more, and after the last all of them are the definition's.
+use mathlib.Core.Path.{◌≡◌}
+use Prim.Native.Nat.{◌-◌, ◌≤◌}
+use lib.ListN.{replicate}
+use native.Mathlib.Omega.{arith}
+use borrow.Author.Rules.{rules}
+use Rattle.laws.specs.Lists.{put, put-none, put-turn, put-end}
+use Rattle.footprint.specs.Footprints.{most_texels}
+use Rattle.program_stored.specs.Stored.{word_at, stored_words}
+use Rattle.program_stored.proofs.stored_words.Given as goal
+
+abbrev pub invariant-loop-k : goal.invariant-loop-k
+invariant-loop-k l = (l.k ≤ most_texels) × (l.words ≡ put (word_at l.stored) 0 l.k (replicate most_texels 0))
+
+abbrev pub decreases-loop-k : goal.decreases-loop-k
+decreases-loop-k l = most_texels - l.k
