@@ -1,0 +1,23 @@
+-- The places before i have the channel of the texels before i.
+use mathlib.Core.Path.{◌≡◌}
+use Prim.Native.Nat.{ℕ, ◌+◌, ◌-◌, ◌≤◌, zero-le}
+use lib.ListN.{get_or}
+use Rattle.laws.specs.Lists.{put, put-none, put-turn, put-end}
+use Rattle.blend.specs.Blend.{hdr_channel}
+use Rattle.lanes.specs.Lanes.{eights}
+use native.Mathlib.Omega.{arith}
+use Rattle.texels_hdr.proofs.hdr_one.Goals as goal
+
+pub loop-i-init : goal.loop-i-init
+loop-i-init c = (zero-le, put-none _ 0 _)
+
+pub hdr_channel-requires : goal.hdr_channel-requires
+hdr_channel-requires c =
+    (c.requires.n_le_most_texels.2, c.requires.n_le_most_texels.3, c.requires.by_index (c.args.x + c.loop-i.i))
+
+pub loop-i-preserved : goal.loop-i-preserved
+loop-i-preserved c =
+    (omega arith, put-turn _ _ _ _ _ _ c.loop-i.invariant.1 zero-le c.hdr_channel.ensures)
+
+pub returns : goal.returns
+returns c = put-end _ _ _ _ _ _ c.loop-i.invariant.1 (omega arith) (omega arith)

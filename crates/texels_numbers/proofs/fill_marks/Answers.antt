@@ -1,0 +1,22 @@
+-- `texels_numbers::fill_marks` meets its contract by its loop: before turn i the first i places have the mark. Assumes nothing.
+use lib.ListN.{length}
+use Rattle.laws.specs.Lists.{put, put-none, put-turn, put-end, length-put}
+use Prim.Native.Nat.{ℕ, ◌-◌, ◌≤◌, zero-le}
+use mathlib.Core.Path.{◌≡◌, refl, ap, ◌∙◌}
+use native.Mathlib.Omega.{arith}
+use Rattle.texels_numbers.proofs.fill_marks.Goals as goal
+
+pub loop-i-init : goal.loop-i-init
+loop-i-init c = (zero-le, put-none _ 0 _)
+
+pub bounds-floats-i : goal.bounds-floats-i
+bounds-floats-i c =
+    let l = c.loop-i in
+    let e : length l.floats ≡ length c.args.floats.now = ap length l.invariant.1 ∙ length-put _ 0 _ _ in
+    omega (arith, e)
+
+pub loop-i-preserved : goal.loop-i-preserved
+loop-i-preserved c = let l = c.loop-i in (omega arith, put-turn _ _ l.i _ _ l.floats l.invariant.1 zero-le refl)
+
+pub returns : goal.returns
+returns c = put-end _ _ _ _ _ _ c.loop-i.invariant.1 (omega arith) (omega arith)

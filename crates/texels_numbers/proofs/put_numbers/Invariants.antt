@@ -1,0 +1,16 @@
+-- `texels_numbers::put_numbers` meets its contract by its loop: before turn i the first i texels have their numbers. Assumes nothing.
+use borrow.Author.Rules.{rules}
+use Rattle.texels_numbers.specs.Numbers.{numbers_from}
+use Rattle.texels_numbers.specs.NumberLaws.{four-told, four-stores}
+use lib.ListN.{length}
+use Rattle.laws.specs.Lists.{put, put-none, put-end, length-put}
+use Prim.Native.Nat.{◌*◌, ◌-◌, ◌≤◌, zero-le}
+use mathlib.Core.Path.{◌≡◌, ap, ◌∙◌}
+use native.Mathlib.Omega.{arith}
+use Rattle.texels_numbers.proofs.put_numbers.Given as goal
+
+abbrev pub invariant-loop-i : goal.invariant-loop-i
+invariant-loop-i l = (l.i ≤ l.n) × (l.out ≡ put (numbers_from l.lanes) 0 (4 * l.i) l.initial.out)
+
+abbrev pub decreases-loop-i : goal.decreases-loop-i
+decreases-loop-i l = l.n - l.i
