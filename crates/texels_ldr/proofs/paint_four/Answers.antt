@@ -32,12 +32,12 @@ bounds-partitions-i c =
 
 pub any_of-x-requires : goal.any_of-x-requires
 any_of-x-requires c =
-    let plain : Plain (any_of (get_or c.args.partitions.now c.loop-i.i 0) (get_or c.args.t6 0 nothing) (get_or c.args.t6 1 nothing) (get_or c.args.t6 2 nothing) (get_or c.args.t6 3 nothing) nothing) = rw (any_entry c.args.t6 nothing (get_or c.args.partitions.now c.loop-i.i 0) (c.requires.by_index_2 c.loop-i.i)) (c.requires.by_index_3 c.loop-i.i) in
+    let plain : Plain (any_of (get_or c.args.partitions.now c.loop-i.i 0) (get_or c.args.ends 0 nothing) (get_or c.args.ends 1 nothing) (get_or c.args.ends 2 nothing) (get_or c.args.ends 3 nothing) nothing) = rw (any_entry c.args.ends nothing (get_or c.args.partitions.now c.loop-i.i 0) (c.requires.by_index_2 c.loop-i.i)) (c.requires.by_index_3 c.loop-i.i) in
     (c.requires.by_index_2 c.loop-i.i, plain)
 
 pub pair-requires : goal.pair-requires
 pair-requires c =
-    let plain : Plain (any_of (get_or c.args.partitions.now c.loop-i.i 0) (get_or c.args.t6 0 nothing) (get_or c.args.t6 1 nothing) (get_or c.args.t6 2 nothing) (get_or c.args.t6 3 nothing) nothing) = rw (any_entry c.args.t6 nothing (get_or c.args.partitions.now c.loop-i.i 0) (c.requires.by_index_2 c.loop-i.i)) (c.requires.by_index_3 c.loop-i.i) in
+    let plain : Plain (any_of (get_or c.args.partitions.now c.loop-i.i 0) (get_or c.args.ends 0 nothing) (get_or c.args.ends 1 nothing) (get_or c.args.ends 2 nothing) (get_or c.args.ends 3 nothing) nothing) = rw (any_entry c.args.ends nothing (get_or c.args.partitions.now c.loop-i.i 0) (c.requires.by_index_2 c.loop-i.i)) (c.requires.by_index_3 c.loop-i.i) in
     let h : Plain c.any_of-x.result = rw c.any_of-x.ensures plain in
     let l = c.weights_at-v.ensures.light in
     (h.b0, h.b1, h.g0, h.g1, l.2, l.1)
@@ -62,7 +62,7 @@ bounds-out-i c =
 
 pub pair-requires-in-loop-i : goal.pair-requires-in-loop-i
 pair-requires-in-loop-i c =
-    let plain : Plain (any_of (get_or c.args.partitions.now c.loop-i.i 0) (get_or c.args.t6 0 nothing) (get_or c.args.t6 1 nothing) (get_or c.args.t6 2 nothing) (get_or c.args.t6 3 nothing) nothing) = rw (any_entry c.args.t6 nothing (get_or c.args.partitions.now c.loop-i.i 0) (c.requires.by_index_2 c.loop-i.i)) (c.requires.by_index_3 c.loop-i.i) in
+    let plain : Plain (any_of (get_or c.args.partitions.now c.loop-i.i 0) (get_or c.args.ends 0 nothing) (get_or c.args.ends 1 nothing) (get_or c.args.ends 2 nothing) (get_or c.args.ends 3 nothing) nothing) = rw (any_entry c.args.ends nothing (get_or c.args.partitions.now c.loop-i.i 0) (c.requires.by_index_2 c.loop-i.i)) (c.requires.by_index_3 c.loop-i.i) in
     let h : Plain c.any_of-x.result = rw c.any_of-x.ensures plain in
     let l = c.weights_at-v.ensures.light in
     (h.r0, h.r1, h.a0, h.a1, l.0, omega (arith, l.0, l.3))
@@ -104,7 +104,7 @@ loop-i-smaller c =
 
 pub loop-i-preserved : goal.loop-i-preserved
 loop-i-preserved c =
-    let plain : Plain (any_of (get_or c.args.partitions.now c.loop-i.i 0) (get_or c.args.t6 0 nothing) (get_or c.args.t6 1 nothing) (get_or c.args.t6 2 nothing) (get_or c.args.t6 3 nothing) nothing) = rw (any_entry c.args.t6 nothing (get_or c.args.partitions.now c.loop-i.i 0) (c.requires.by_index_2 c.loop-i.i)) (c.requires.by_index_3 c.loop-i.i) in
+    let plain : Plain (any_of (get_or c.args.partitions.now c.loop-i.i 0) (get_or c.args.ends 0 nothing) (get_or c.args.ends 1 nothing) (get_or c.args.ends 2 nothing) (get_or c.args.ends 3 nothing) nothing) = rw (any_entry c.args.ends nothing (get_or c.args.partitions.now c.loop-i.i 0) (c.requires.by_index_2 c.loop-i.i)) (c.requires.by_index_3 c.loop-i.i) in
     let turn : c.loop-i.i < eights c.args.n = omega arith in
     let v = c.weights_at-v.ensures in
     (next_le turn, ldr-stores _ c.any_of-x.result _ _ _ _ plain c.loop-i.invariant.1 refl c.any_of-x.ensures v.r v.g v.b v.a c.pair.ensures c.pair-in-loop-i.ensures)
@@ -113,4 +113,4 @@ pub returns : goal.returns
 returns c =
     let e : c.loop-i.i ≡ eights c.args.n = omega arith in
     rw e at c.loop-i.invariant.1
-    ∙ put-lanes _ _ (eights c.args.n) _ (λ i h. rw (any_entry c.args.t6 nothing (get_or c.args.partitions.now i 0) (c.requires.by_index_2 i)))
+    ∙ put-lanes _ _ (eights c.args.n) _ (λ i h. rw (any_entry c.args.ends nothing (get_or c.args.partitions.now i 0) (c.requires.by_index_2 i)))
