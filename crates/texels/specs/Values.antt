@@ -44,8 +44,8 @@ pub record Values : Type 0 where
   pub mixed : texel_word ends weights partitions 1 0 2 ≡ 0x40B7_7F01
   -- the low lane comes first
   pub low : lane_at (texel_word ends weights partitions 1 0) 0 ≡ 0x0080
-  pub high : lane_at (texel_word ends weights partitions 1 0) 1 ≡ 0x_ff80
-  pub next : lane_at (texel_word ends weights partitions 1 0) 2 ≡ 0x7_f01
+  pub high : lane_at (texel_word ends weights partitions 1 0) 1 ≡ 0xFF80
+  pub next : lane_at (texel_word ends weights partitions 1 0) 2 ≡ 0x7F01
   -- as many as are painted
   pub four-by-four : eights 16 ≡ 16
   pub five-by-five : eights 25 ≡ 32

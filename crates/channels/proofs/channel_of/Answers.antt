@@ -6,7 +6,7 @@ use borrow.Author.Rules.{rules}
 use Rattle.channels.proofs.channel_of.Goals as goal
 
 pub returns-in-Byte : goal.returns-in-Byte
-returns-in-Byte c = sym (ap channel_of c.s-1.given.1)
+returns-in-Byte c = sym (ap channel_of c.in-Byte.is)
 
 pub returns-in-Half : goal.returns-in-Half
-returns-in-Half c = ap Float c.fp16_ieee_to_fp32_value.ensures ∙ sym (ap channel_of c.s-in-Half-1.given.1)
+returns-in-Half c = ap Float c.fp16_ieee_to_fp32_value.ensures ∙ sym (ap channel_of c.in-Half.is)

@@ -5,8 +5,8 @@ use Rattle.channels.proofs.reduced.Goals as goal
 
 pub returns-in-Ordinary : goal.returns-in-Ordinary
 returns-in-Ordinary c =
-    ret-float _ _ _ _ _ c.c-in-Float-1.given.1 c.enum_told-1.given.1 c.byte_of.ensures
+    ret-float _ _ _ _ _ c.in-Float.is c.in-Ordinary.is c.byte_of.ensures
 
 pub returns-in-Void : goal.returns-in-Void
 returns-in-Void c =
-    ret-float _ _ _ _ _ c.c-in-Float-1.given.1 c.enum_told-in-Void-1.given.1 c.byte_of-in-Void.ensures
+    ret-float _ _ _ _ _ c.in-Float.is c.in-Void.is c.byte_of-in-Void.ensures
