@@ -1,6 +1,6 @@
 -- The way out of mode 11 where its colours are made of differences, from the numbers that the code puts together.
 -- Assumes nothing.
-use Rattle.std.specs.Prelude.{◌≡◌, ℕ, ◌+◌, ◌*◌, ◌/◌, ◌<◌, get_or}
+use Rattle.std.specs.Prelude.{◌≡◌, ℕ, ◌+◌, ◌*◌, ◌/◌, ◌<◌}
 use Rattle.std.proofs.Common.{◌∙◌, arith, ne_eqb}
 use Rattle.endpoints_colours.specs.declared.Alphas.{Alphas}
 use Rattle.endpoints_colours.specs.declared.Endpoints.{Endpoints}

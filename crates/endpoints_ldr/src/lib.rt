@@ -102,7 +102,7 @@ fn bit_transfer_signed(offset: u8, base: u8) -> Transfer
 
 // A colour with three equal components and an alpha.
 fn grey(x: u16, a: u16) -> Rgba
-    ensures* { λ r. ⌜ r ≡ record { r = x; g = x; b = x; a = a } ⌝ }
+    ensures { result ≡ record { r = x; g = x; b = x; a = a } }
 {
     Rgba {
         r: x,

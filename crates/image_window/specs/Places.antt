@@ -1,8 +1,8 @@
 -- The laws of a block's window: its rows lie in the image, and every pixel is in the window of its block.
 -- Assumes nothing.
-use Rattle.std.specs.Prelude.{◌≡◌, ℕ, zero, suc, ◌+◌, ◌-◌, ◌*◌, ◌/◌, ◌%◌, ◌≤◌, ◌<◌, min, List}
+use Rattle.std.specs.Prelude.{◌≡◌, ℕ, suc, ◌+◌, ◌-◌, ◌*◌, ◌/◌, ◌%◌, ◌≤◌, ◌<◌, min}
 use Rattle.std.proofs.Math.Path.{sym, ap}
-use Rattle.std.proofs.Common.{◌∙◌, mul_comm, add-mul, suc-mul, mul-le-mul, mul-le-mul_right, div-mul-le_self, div-le_self, div-lt_iff_lt-mul}
+use Rattle.std.proofs.Common.{◌∙◌, mul_comm, add-mul, suc-mul, mul-le-mul, mul-le-mul_right, div-mul-le_self, div-lt_iff_lt-mul}
 use Rattle.std.proofs.Math.Nat.{mod-lt, div-add-mod'}
 use Rattle.std.proofs.Math.Decide.{dec_lt}
 use native.Mathlib.Omega.{arith}

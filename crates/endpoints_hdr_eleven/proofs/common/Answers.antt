@@ -2,7 +2,6 @@
 use mathlib.Core.Path.{refl}
 use native.Mathlib.Omega.{arith}
 use Rattle.endpoints_hdr_eleven.specs.Hdr11Laws.{commons, common-rest}
-use borrow.Author.Rules.{rules}
 use Rattle.endpoints_hdr_eleven.proofs.common.Goals as goal
 
 pub returns-in-2 : goal.returns-in-2
@@ -28,4 +27,4 @@ returns-in-7 c = rw c.in-7.is (refl, omega arith)
 pub returns-in_default : goal.returns-in_default
 unfolding commons
 returns-in_default c =
-    (common-rest c.args.v c.args.mode (omega arith) c.in_default.in_default-own.0.0.0.0.1 c.in_default.in_default-own.0.0.0.1 c.in_default.in_default-own.0.0.1 c.in_default.in_default-own.0.1 c.in_default.in_default-own.1, omega arith)
+    (common-rest c.args.v c.args.mode (omega arith) (omega arith) (omega arith) (omega arith) (omega arith) (omega arith), omega arith)

@@ -2,7 +2,6 @@
 use mathlib.Core.Logic.{⊎_elim}
 use native.Mathlib.Omega.{arith}
 use Rattle.endpoints_hdr_eleven.specs.Hdr11Laws.{differences, difference-rest}
-use borrow.Author.Rules.{rules}
 use Rattle.endpoints_hdr_eleven.proofs.difference.Goals as goal
 
 pub returns-in-0 : goal.returns-in-0
@@ -15,4 +14,4 @@ returns-in-1 c = (⊎_elim (λ e. rw e) (λ e. rw e) c.in-1.is, omega arith)
 
 pub returns-in_default : goal.returns-in_default
 unfolding differences
-returns-in_default c = (difference-rest c.args.x c.args.y c.args.mode (omega arith) c.in_default.in_default-own.0.1 c.in_default.in_default-own.1, omega arith)
+returns-in_default c = (difference-rest c.args.x c.args.y c.args.mode (omega arith) (omega arith) (omega arith), omega arith)

@@ -3,7 +3,6 @@ use mathlib.Core.Path.{◌∙◌}
 use mathlib.Core.Logic.{⊎_elim}
 use native.Mathlib.Omega.{arith}
 use Rattle.endpoints_hdr_eleven.specs.Hdr11Laws.{offsets, offset-rest}
-use borrow.Author.Rules.{rules}
 use Rattle.endpoints_hdr_eleven.proofs.offset.Goals as goal
 
 pub returns-in-0 : goal.returns-in-0
@@ -16,4 +15,4 @@ returns-in-4 c = (c.keep-in-4.ensures.0 ∙ ⊎_elim (λ e. rw e) (λ e. rw e) c
 
 pub returns-in_default : goal.returns-in_default
 unfolding offsets
-returns-in_default c = (c.keep-in_default.ensures.0 ∙ offset-rest c.args.x c.args.mode (omega arith) c.in_default.in_default-own.0.1 c.in_default.in_default-own.1, omega arith)
+returns-in_default c = (c.keep-in_default.ensures.0 ∙ offset-rest c.args.x c.args.mode (omega arith) (omega arith) (omega arith), omega arith)

@@ -2,7 +2,6 @@
 use lib.Dec.{lit≤, lit<}
 use Rattle.endpoints_rules.specs.BitLaws.{under, less-fits, product-fits, product_lt}
 use Rattle.endpoints_hdr_eleven.specs.Hdr11Laws.{eleven_of}
-use borrow.Author.Rules.{rules}
 use Rattle.endpoints_hdr_eleven.proofs.parts_of_eleven.Goals as goal
 
 pub overflow_mul-result : goal.overflow_mul-result

@@ -2,7 +2,6 @@
 use mathlib.Core.Path.{refl}
 use native.Mathlib.Omega.{arith}
 use Rattle.endpoints_rules.specs.Ldr.{base_of, offset_of}
-use borrow.Author.Rules.{rules}
 use Rattle.endpoints_ldr.proofs.bit_transfer_signed.Goals as goal
 
 pub returns : goal.returns

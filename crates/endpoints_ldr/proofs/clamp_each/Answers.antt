@@ -1,5 +1,4 @@
 -- `endpoints_ldr::clamp_each` clamps each component, as the definition does. Assumes nothing.
-use borrow.Author.Rules.{rules}
 use Rattle.endpoints_ldr.proofs.clamp_each.Goals as goal
 
 pub returns : goal.returns

@@ -1,6 +1,6 @@
 -- `endpoints_ldr::decode_ldr`: each arm is an entry of the list of modes, and the last stands for 9 and 13. Assumes nothing.
+use native.Mathlib.Omega.{arith}
 use Rattle.endpoints_ldr.specs.LdrLaws.{last-modes, mode-0, mode-1, mode-4, mode-5, mode-scaled, mode-direct, mode-offset}
-use borrow.Author.Rules.{rules}
 use Rattle.endpoints_ldr.proofs.decode_ldr.Goals as goal
 
 pub returns-in-0 : goal.returns-in-0
@@ -23,5 +23,4 @@ returns-in-8 c = search mode-direct
 
 pub returns-in_default : goal.returns-in_default
 returns-in_default c =
-    let n = c.in-0.rest in
-    mode-offset _ _ _ _ (last-modes c.args.mode c.requires.0 c.requires.1 n.0.0.0.0.0.1 n.0.0.0.0.1 n.0.0.0.1 n.0.0.1 n.0.1 n.1) c.offset_alphas.ensures c.offset_endpoints.ensures
+    mode-offset _ _ _ _ (last-modes c.args.mode c.requires.0 c.requires.1 (omega arith) (omega arith) (omega arith) (omega arith) (omega arith) (omega arith)) c.offset_alphas.ensures c.offset_endpoints.ensures

@@ -1,6 +1,5 @@
 -- `endpoints_ldr::direct_endpoints`: the comparison chooses the case of the definition. Assumes nothing.
 use Rattle.endpoints_ldr.specs.LdrLaws.{direct-up, direct-down}
-use borrow.Author.Rules.{rules}
 use Rattle.endpoints_ldr.proofs.direct_endpoints.Goals as goal
 
 pub returns-then-c-d : goal.returns-then-c-d

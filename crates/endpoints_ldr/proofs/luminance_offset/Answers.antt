@@ -1,6 +1,5 @@
 -- `endpoints_ldr::luminance_offset` makes the pair of two greys, the second at most 255. Assumes nothing.
 use Rattle.endpoints_ldr.specs.LdrLaws.{luminance-offset-is}
-use borrow.Author.Rules.{rules}
 use Rattle.endpoints_ldr.proofs.luminance_offset.Goals as goal
 
 pub returns : goal.returns

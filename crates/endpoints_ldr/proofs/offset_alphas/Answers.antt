@@ -1,6 +1,5 @@
 -- The cases of the definition.
 use borrow.Author.Tests.{eq-eqb, ne_eqb}
-use borrow.Author.Rules.{rules}
 use Rattle.endpoints_ldr.proofs.offset_alphas.Goals as goal
 
 pub returns-then-mode-eq9 : goal.returns-then-mode-eq9

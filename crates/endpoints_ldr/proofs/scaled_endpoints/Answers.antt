@@ -1,6 +1,5 @@
 -- `endpoints_ldr::scaled_endpoints` makes the pair of the scaled colour and the colour. Assumes nothing.
 use Rattle.endpoints_ldr.specs.LdrLaws.{scaled-is}
-use borrow.Author.Rules.{rules}
 use Rattle.endpoints_ldr.proofs.scaled_endpoints.Goals as goal
 
 pub returns : goal.returns

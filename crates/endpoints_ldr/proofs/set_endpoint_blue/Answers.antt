@@ -1,6 +1,5 @@
 -- `endpoints_ldr::set_endpoint_blue` makes the pair of the contracted colours. Assumes nothing.
 use mathlib.Core.Path.{◌∙◌}
-use borrow.Author.Rules.{rules}
 use Rattle.endpoints_ldr.proofs.set_endpoint_blue.Goals as goal
 
 pub returns : goal.returns

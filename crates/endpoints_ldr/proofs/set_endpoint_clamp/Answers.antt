@@ -1,6 +1,5 @@
 -- `endpoints_ldr::set_endpoint_clamp` makes the pair of the clamped colours. Assumes nothing.
 use mathlib.Core.Path.{◌∙◌}
-use borrow.Author.Rules.{rules}
 use Rattle.endpoints_ldr.proofs.set_endpoint_clamp.Goals as goal
 
 pub returns : goal.returns

@@ -1,7 +1,6 @@
 -- `endpoints_ldr::share`: a product of two bytes fits 16 bits. Assumes nothing.
 use native.Mathlib.Omega.{arith}
 use Rattle.endpoints_ldr.specs.LdrLaws.{byte-product}
-use borrow.Author.Rules.{rules}
 use Rattle.endpoints_ldr.proofs.share.Goals as goal
 
 pub overflow_mul-result : goal.overflow_mul-result

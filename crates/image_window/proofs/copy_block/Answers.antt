@@ -3,7 +3,6 @@ use Rattle.lanes.specs.Lanes.{joined_at}
 use Rattle.image_window.specs.Places.{block-lt, window-fits, window-texels}
 use Rattle.image_window.specs.MarkLaws.{window-painted}
 use mathlib.Core.Path.{refl}
-use borrow.Author.Rules.{rules}
 use Rattle.image_window.proofs.copy_block.Goals as goal
 
 pub copy_rows-requires : goal.copy_rows-requires

@@ -1,9 +1,7 @@
 -- `image_window::copy_rows` meets its contract by its loop: the rows before r are in place. Assumes nothing.
 use lib.ListN.{length}
-use Rattle.lanes.specs.Lanes.{joined_at}
-use Rattle.image_window.specs.Windows.{rows_put}
 use Rattle.image_window.specs.MarkLaws.{rows-first, rows-turn, rows_last, length-rows_put}
-use Prim.Native.Nat.{ℕ, ◌+◌, ◌-◌, ◌*◌, ◌≤◌, ◌<◌}
+use Prim.Native.Nat.{◌<◌}
 use mathlib.Core.Path.{◌≡◌, ap, ◌∙◌}
 use native.Mathlib.Omega.{arith}
 use Rattle.image_window.proofs.copy_rows.Goals as goal

@@ -1,10 +1,7 @@
 -- `image_window::fill_rows` meets its contract by its loop: the rows before r are in place. Assumes nothing.
-use lib.ListN.{length}
 use Rattle.image_window.specs.Windows.{rows_put}
-use Rattle.image_window.specs.MarkLaws.{rows-first, rows-turn, rows_last, length-rows_put}
-use Prim.Native.Nat.{ℕ, ◌-◌, ◌≤◌, ◌<◌}
-use mathlib.Core.Path.{◌≡◌, ap, ◌∙◌}
-use native.Mathlib.Omega.{arith}
+use Prim.Native.Nat.{ℕ, ◌-◌, ◌≤◌}
+use mathlib.Core.Path.{◌≡◌}
 use Rattle.image_window.proofs.fill_rows.Given as goal
 
 abbrev pub invariant-loop-r : goal.invariant-loop-r

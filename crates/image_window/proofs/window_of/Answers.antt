@@ -1,7 +1,6 @@
 -- `image_window::window_of`: the block's first column and row, and what is left of the image from there on. Assumes nothing.
 use Rattle.image_window.specs.Places.{left_is, top-is, window-is}
 use mathlib.Core.Path.{◌∙◌}
-use borrow.Author.Rules.{rules}
 use Rattle.image_window.proofs.window_of.Goals as goal
 
 pub left_of-left-requires : goal.left_of-left-requires
