@@ -1,0 +1,24 @@
+-- Each kind paints the words of the definition.
+use Prim.Native.Nat.{ℕ}
+use mathlib.Core.Path.{◌∙◌}
+use native.Mathlib.Omega.{arith}
+use Rattle.texels.specs.TexelLaws.{as-any}
+use borrow.Author.Rules.{rules}
+use Rattle.texels_paint.proofs.applicate_color.Goals as goal
+
+pub paint_ldr-requires : goal.paint_ldr-requires
+paint_ldr-requires c =
+    let e = c.if-kind-eq0.true in
+    record { paint_given = c.requires; all_of = λ p h. c.common_kind-kind.ensures (omega arith) p h ∙ e }
+
+pub paint_hdr-requires : goal.paint_hdr-requires
+paint_hdr-requires c =
+    let e = c.if-kind-eq1.true in
+    record { paint_given = c.requires; all_of = λ p h. c.common_kind-kind.ensures (omega arith) p h ∙ e }
+
+pub paint_any-requires : goal.paint_any-requires
+paint_any-requires c =
+    let p = c.requires in ((p.few, c.starts_of.ensures.1), (p.within, (p.light, λ (i : ℕ). omega (arith, p.mapped i))))
+
+pub returns : goal.returns
+returns c = search as-any
