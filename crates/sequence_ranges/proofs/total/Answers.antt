@@ -6,7 +6,6 @@ use native.Mathlib.Nat.{mul-zero, add-zero}
 use Rattle.footprint.specs.Footprints.{most_weights}
 use Rattle.sequence_ranges.specs.Ranges.{total_of}
 use Rattle.sequence_ranges.specs.RangeLaws.{bits-le}
-use borrow.Author.Rules.{rules}
 use Rattle.sequence_ranges.proofs.total.Goals as goal
 
 pub overflow_mul-plain : goal.overflow_mul-plain
