@@ -1,0 +1,15 @@
+-- At each turn the values before i are in their places, and s is what is left of w from their next group on; past n they are cleared.
+use Prim.Native.Nat.{◌*◌, ◌-◌}
+use native.Mathlib.Nat.{add_comm}
+use Rattle.bits.specs.Blocks.{value_of}
+use Rattle.sequence_ranges.specs.Ranges.{range}
+use Rattle.sequence_groups.specs.Sequence.{size_of}
+use Rattle.sequence_groups.specs.TurnLaws.{starts, next_fits, nearer, more, size-lt, bits_fit, size_fits, Turned, turned-first, turned-next, turned-last}
+use Rattle.sequence_ranges.specs.declared.Kind.TheVariants.{Quints}
+use Rattle.sequence_values.proofs.decode_quints.Given as goal
+
+abbrev pub invariant-loop-i : goal.invariant-loop-i
+invariant-loop-i l = Turned (range Quints l.b) (value_of l.initial.s) l.n l.i (value_of l.s) l.out
+
+abbrev pub decreases-loop-i : goal.decreases-loop-i
+decreases-loop-i l = l.n - l.i
