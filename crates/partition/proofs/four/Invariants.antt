@@ -1,11 +1,8 @@
 -- `partition::four` meets its contract: each turn fills one row more. Assumes nothing.
-use Rattle.partition.specs.PartitionLaws.{row_fits, moved-gentle, four-turn}
 use Rattle.partition.specs.Rows.{of_four}
-use Rattle.laws.specs.Lists.{put, texels, put-rows}
-use native.Mathlib.Nat.{lt_of_lt_of_le}
+use Rattle.laws.specs.Lists.{put, texels}
 use mathlib.Core.Path.{◌≡◌}
 use Prim.Native.Nat.{◌-◌, ◌*◌, ◌≤◌}
-use native.Mathlib.Omega.{arith}
 use Rattle.partition.proofs.four.Given as goal
 
 abbrev pub invariant-loop-t : goal.invariant-loop-t

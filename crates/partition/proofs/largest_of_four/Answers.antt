@@ -1,6 +1,5 @@
 -- `partition::largest_of_four` meets its contract: a law for each way out. Assumes nothing.
 use Rattle.partition.specs.PartitionLaws.{four-last, four-third, four-second, four-first}
-use borrow.Author.Rules.{rules}
 use Rattle.partition.proofs.largest_of_four.Goals as goal
 
 pub returns-then-c-d : goal.returns-then-c-d

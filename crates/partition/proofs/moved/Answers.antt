@@ -1,7 +1,6 @@
 -- `partition::moved` meets its contract: the sum stays far below 2 ^ 16. Assumes nothing.
 use Rattle.partition.specs.PartitionLaws.{gentle-mul}
 use native.Mathlib.Omega.{arith}
-use borrow.Author.Rules.{rules}
 use Rattle.partition.proofs.moved.Goals as goal
 
 pub overflow_mul-result : goal.overflow_mul-result

@@ -1,10 +1,8 @@
 -- `partition::row_of_four` meets its contract: each turn fills one place more. Assumes nothing.
 use Rattle.partition.specs.Rows.{in_row_of_four}
-use Rattle.laws.specs.Lists.{put_at, put_at-none, put_at-turn}
-use native.Mathlib.Nat.{lt_of_lt_of_le}
+use Rattle.laws.specs.Lists.{put_at}
 use mathlib.Core.Path.{◌≡◌}
 use Prim.Native.Nat.{◌-◌, ◌≤◌}
-use native.Mathlib.Omega.{arith}
 use Rattle.partition.proofs.row_of_four.Given as goal
 
 abbrev pub invariant-loop-s : goal.invariant-loop-s

@@ -1,9 +1,6 @@
 -- `partition::row_of_two` meets its contract: each turn fills one place more. Assumes nothing.
-use Rattle.partition.specs.Rows.{in_row_of_two}
-use Rattle.laws.specs.Lists.{put_at, put_at-none, put_at-turn}
-use borrow.Author.Rules.{rules}
+use Rattle.laws.specs.Lists.{put_at-none, put_at-turn}
 use mathlib.Core.Path.{◌≡◌}
-use Prim.Native.Nat.{◌-◌, ◌≤◌}
 use native.Mathlib.Omega.{arith}
 use Rattle.partition.proofs.row_of_two.Goals as goal
 

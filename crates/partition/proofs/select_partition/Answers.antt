@@ -2,7 +2,6 @@
 use lib.Dec.{lit<}
 use Rattle.partition_ramps.specs.RampLaws.{ramp-held}
 use Rattle.partition.specs.PartitionLaws.{of_two-is, of_three, of-four, flat-gentle, last-count}
-use borrow.Author.Rules.{rules}
 use Rattle.partition.proofs.select_partition.Goals as goal
 
 pub hash-r-requires : goal.hash-r-requires
