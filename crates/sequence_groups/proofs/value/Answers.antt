@@ -5,7 +5,6 @@ use native.Mathlib.Omega.{arith}
 use native.Mathlib.Nat.{mod-lt, add-mul, one-mul}
 use lib.Pow.{pow_pos, shl_exact}
 use Rattle.bits.specs.BitLaws.{one_shl}
-use borrow.Author.Rules.{rules}
 use Rattle.sequence_groups.proofs.value.Goals as goal
 
 shifted : (e d b : ℕ) → b ≤ 8 → e % 8 * 2 ^ b % 2 ^ 64 + d % (1 * 2 ^ b % 2 ^ 64) ≡ e % 8 * 2 ^ b + d % 2 ^ b
