@@ -1,12 +1,10 @@
 -- At each turn the values before i are in their places, and s is what is left of w from value i on; past n they are cleared.
 use mathlib.Core.Path.{refl, ◌∙◌}
-use Prim.Native.Nat.{◌-◌}
 use Rattle.bits.specs.Blocks.{value_of}
 use Rattle.sequence_ranges.specs.Ranges.{range}
-use Rattle.sequence_groups.specs.TurnLaws.{starts, next_fits, nearer, bits_fit, Turned, turned-first, turned-last}
+use Rattle.sequence_groups.specs.TurnLaws.{starts, next_fits, nearer, bits_fit, turned-first, turned-last}
 use Rattle.sequence_plain.specs.PlainLaws.{turned_plain, no_bits}
 use Rattle.sequence_ranges.specs.declared.Kind.TheVariants.{Plain}
-use borrow.Author.Rules.{rules}
 use Rattle.sequence_plain.proofs.decode_plain.Goals as goal
 
 pub returns-then-b-eq0 : goal.returns-then-b-eq0
