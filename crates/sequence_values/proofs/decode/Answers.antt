@@ -4,7 +4,6 @@ use Rattle.bits.specs.Blocks.{value_of}
 use Rattle.sequence_ranges.specs.Ranges.{range}
 use Rattle.sequence_groups.specs.Sequence.{values_of}
 use Rattle.sequence_ranges.specs.declared.Kind.{Kind}
-use borrow.Author.Rules.{rules}
 use Rattle.sequence_values.proofs.decode.Goals as goal
 
 pub decode_plain_by-requires : goal.decode_plain_by-requires

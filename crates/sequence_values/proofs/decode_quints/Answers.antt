@@ -1,10 +1,10 @@
 -- At each turn the values before i are in their places, and s is what is left of w from their next group on; past n they are cleared.
-use Prim.Native.Nat.{◌*◌, ◌-◌}
+use Prim.Native.Nat.{◌*◌}
 use native.Mathlib.Nat.{add_comm}
 use Rattle.bits.specs.Blocks.{value_of}
 use Rattle.sequence_ranges.specs.Ranges.{range}
 use Rattle.sequence_groups.specs.Sequence.{size_of}
-use Rattle.sequence_groups.specs.TurnLaws.{starts, next_fits, nearer, more, size-lt, bits_fit, size_fits, Turned, turned-first, turned-next, turned-last}
+use Rattle.sequence_groups.specs.TurnLaws.{starts, next_fits, nearer, more, size-lt, bits_fit, size_fits, turned-first, turned-next, turned-last}
 use Rattle.sequence_ranges.specs.declared.Kind.TheVariants.{Quints}
 use Rattle.sequence_values.proofs.decode_quints.Goals as goal
 

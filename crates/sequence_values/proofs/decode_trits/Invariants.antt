@@ -1,10 +1,8 @@
 -- At each turn the values before i are in their places, and s is what is left of w from their next group on; past n they are cleared.
-use Prim.Native.Nat.{◌*◌, ◌-◌}
-use native.Mathlib.Nat.{add_comm}
+use Prim.Native.Nat.{◌-◌}
 use Rattle.bits.specs.Blocks.{value_of}
 use Rattle.sequence_ranges.specs.Ranges.{range}
-use Rattle.sequence_groups.specs.Sequence.{size_of}
-use Rattle.sequence_groups.specs.TurnLaws.{starts, next_fits, nearer, more, size-lt, bits_fit, size_fits, Turned, turned-first, turned-next, turned-last}
+use Rattle.sequence_groups.specs.TurnLaws.{Turned}
 use Rattle.sequence_ranges.specs.declared.Kind.TheVariants.{Trits}
 use Rattle.sequence_values.proofs.decode_trits.Given as goal
 
