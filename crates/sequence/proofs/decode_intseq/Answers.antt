@@ -3,7 +3,6 @@ use mathlib.Core.Path.{◌≡◌}
 use Rattle.bits.specs.Bits.{bits_at}
 use Rattle.bits.specs.Blocks.{value_of}
 use Rattle.sequence_ranges.specs.Ranges.{total_of}
-use borrow.Author.Rules.{rules}
 use Rattle.sequence.proofs.decode_intseq.Goals as goal
 
 pub returns : goal.returns

@@ -2,7 +2,6 @@
 use mathlib.Core.Path.{◌≡◌}
 use Rattle.bits.specs.Bits.{reversed}
 use Rattle.bits.specs.Blocks.{value_of}
-use borrow.Author.Rules.{rules}
 use Rattle.sequence.proofs.decode_intseq_reverse.Goals as goal
 
 pub returns : goal.returns
