@@ -1,10 +1,8 @@
 -- The places before i hold the product of what the sequence has there.
-use mathlib.Core.Path.{◌≡◌, refl}
-use Prim.Native.Nat.{ℕ, ◌*◌, ◌-◌, ◌≤◌, zero-le}
+use mathlib.Core.Path.{refl}
+use Prim.Native.Nat.{zero-le}
 use native.Mathlib.Omega.{arith}
-use Rattle.lanes.specs.Lanes.{eights}
-use lib.ListN.{get_or}
-use Rattle.laws.specs.Lists.{put, put-none, put-turn, put-end}
+use Rattle.laws.specs.Lists.{put-none, put-turn, put-end}
 use Rattle.weights_unquantise.proofs.digit_all.Goals as goal
 
 pub loop-i-init : goal.loop-i-init

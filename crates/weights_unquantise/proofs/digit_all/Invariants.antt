@@ -1,10 +1,9 @@
 -- The places before i hold the product of what the sequence has there.
-use mathlib.Core.Path.{◌≡◌, refl}
-use Prim.Native.Nat.{ℕ, ◌*◌, ◌-◌, ◌≤◌, zero-le}
-use native.Mathlib.Omega.{arith}
+use mathlib.Core.Path.{◌≡◌}
+use Prim.Native.Nat.{ℕ, ◌*◌, ◌-◌, ◌≤◌}
 use Rattle.lanes.specs.Lanes.{eights}
 use lib.ListN.{get_or}
-use Rattle.laws.specs.Lists.{put, put-none, put-turn, put-end}
+use Rattle.laws.specs.Lists.{put}
 use Rattle.weights_unquantise.proofs.digit_all.Given as goal
 
 abbrev pub invariant-loop-i : goal.invariant-loop-i

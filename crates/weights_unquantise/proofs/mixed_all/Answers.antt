@@ -1,12 +1,10 @@
 -- The places before i hold the form of what the sequence has there.
-use mathlib.Core.Path.{◌≡◌, ap, ◌∙◌}
-use Prim.Native.Nat.{ℕ, ◌-◌, ◌%◌, ◌≤◌, zero-le}
+use mathlib.Core.Path.{ap, ◌∙◌}
+use Prim.Native.Nat.{◌%◌, zero-le}
 use native.Mathlib.Omega.{arith}
-use lib.ListN.{get_or}
-use Rattle.laws.specs.Lists.{put, put-none, put-turn, put-end}
+use Rattle.laws.specs.Lists.{put-none, put-turn, put-end}
 use Rattle.weights_unquantise.specs.Unquantise.{raised}
 use Rattle.weights_unquantise.specs.Forms.{turned, mixed_of}
-use Rattle.lanes.specs.Lanes.{eights}
 use Rattle.weights_unquantise.proofs.mixed_all.Goals as goal
 
 pub loop-i-init : goal.loop-i-init

@@ -1,11 +1,9 @@
 -- The places before i hold the form of what the sequence has there.
-use mathlib.Core.Path.{◌≡◌, ap, ◌∙◌}
-use Prim.Native.Nat.{ℕ, ◌-◌, ◌%◌, ◌≤◌, zero-le}
-use native.Mathlib.Omega.{arith}
+use mathlib.Core.Path.{◌≡◌}
+use Prim.Native.Nat.{ℕ, ◌-◌, ◌≤◌}
 use lib.ListN.{get_or}
-use Rattle.laws.specs.Lists.{put, put-none, put-turn, put-end}
-use Rattle.weights_unquantise.specs.Unquantise.{raised}
-use Rattle.weights_unquantise.specs.Forms.{turned, mixed_of}
+use Rattle.laws.specs.Lists.{put}
+use Rattle.weights_unquantise.specs.Forms.{mixed_of}
 use Rattle.lanes.specs.Lanes.{eights}
 use Rattle.weights_unquantise.proofs.mixed_all.Given as goal
 

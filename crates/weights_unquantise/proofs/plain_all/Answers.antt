@@ -1,13 +1,11 @@
 -- The places before i hold the form of what the sequence has there.
-use Prim.Native.Nat.{zero-le, ℕ, ◌-◌, ◌≤◌}
+use Prim.Native.Nat.{zero-le}
 use Rattle.weights_unquantise.specs.Forms.{plain_of}
-use Rattle.lanes.specs.Lanes.{eights}
-use mathlib.Core.Path.{◌≡◌, ap, ◌∙◌}
+use mathlib.Core.Path.{ap, ◌∙◌}
 use native.Mathlib.Omega.{arith}
 use native.Mathlib.Nat.{mul-le-mul}
 use lib.Pow.{shr_le}
-use lib.ListN.{get_or}
-use Rattle.laws.specs.Lists.{put, put-none, put-turn, put-end}
+use Rattle.laws.specs.Lists.{put-none, put-turn, put-end}
 use Rattle.weights_unquantise.proofs.plain_all.Goals as goal
 
 pub loop-i-init : goal.loop-i-init

@@ -1,13 +1,10 @@
 -- The places before i hold the form of what the sequence has there.
-use Prim.Native.Nat.{zero-le, ℕ, ◌-◌, ◌≤◌}
+use Prim.Native.Nat.{ℕ, ◌-◌, ◌≤◌}
 use Rattle.weights_unquantise.specs.Forms.{plain_of}
 use Rattle.lanes.specs.Lanes.{eights}
-use mathlib.Core.Path.{◌≡◌, ap, ◌∙◌}
-use native.Mathlib.Omega.{arith}
-use native.Mathlib.Nat.{mul-le-mul}
-use lib.Pow.{shr_le}
+use mathlib.Core.Path.{◌≡◌}
 use lib.ListN.{get_or}
-use Rattle.laws.specs.Lists.{put, put-none, put-turn, put-end}
+use Rattle.laws.specs.Lists.{put}
 use Rattle.weights_unquantise.proofs.plain_all.Given as goal
 
 abbrev pub invariant-loop-i : goal.invariant-loop-i

@@ -2,7 +2,6 @@
 use native.Mathlib.Omega.{arith}
 use borrow.Author.Tests.{lt-ltb, le-ltb}
 use Rattle.weights_unquantise.specs.Unquantise.{raised}
-use borrow.Author.Rules.{rules}
 use Rattle.weights_unquantise.proofs.raise.Goals as goal
 
 pub returns-then-x-lt33 : goal.returns-then-x-lt33

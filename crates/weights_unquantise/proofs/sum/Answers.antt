@@ -1,7 +1,6 @@
 -- The shift by a variable makes a power of two, and each part is at most the sum.
 use mathlib.Core.Path.{refl}
 use native.Mathlib.Omega.{arith}
-use borrow.Author.Rules.{rules}
 use lib.Pow.{pow_pos}
 use Rattle.weights_unquantise.specs.UnquantiseLaws.{one_shl}
 use Rattle.weights_unquantise.proofs.sum.Goals as goal

@@ -2,7 +2,6 @@
 use mathlib.Core.Path.{refl}
 use native.Mathlib.Omega.{arith}
 use borrow.Author.Tests.{eq-eqb, ne_eqb}
-use borrow.Author.Rules.{rules}
 use Rattle.weights_unquantise.proofs.turn.Goals as goal
 
 pub returns-then-odd-eq0 : goal.returns-then-odd-eq0

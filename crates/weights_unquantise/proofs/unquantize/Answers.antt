@@ -2,7 +2,6 @@
 use mathlib.Core.Path.{◌≡◌}
 use Prim.Native.Nat.{ℕ, ◌*◌, ◌<◌}
 use native.Mathlib.Omega.{arith}
-use borrow.Author.Rules.{rules}
 use lib.ListN.{get_or}
 use Rattle.weights_unquantise.specs.Unquantise.{weight_of}
 use Rattle.weights_unquantise.specs.Forms.{each, sum_of, form_of}
@@ -11,7 +10,6 @@ use mathlib.Core.Bool.{Bool}
 use mathlib.Core.List.{List}
 use lib.Dec.{T, ltb, leb, ltb→lt, leb→le}
 use Rattle.laws.specs.Table.{all}
-use Rattle.laws.specs.Numbers.{last_arm}
 use Rattle.sequence_ranges.specs.Ranges.{ranges, range_of, levels}
 use Rattle.weights_unquantise.proofs.unquantize.Goals as goal
 
