@@ -1,11 +1,7 @@
 -- `endpoints_unquantise::copy_all` fills the first places with the bytes of the values, one a turn. Assumes nothing.
-use mathlib.Core.Path.{◌≡◌}
-use Prim.Native.Nat.{ℕ, ◌-◌, ◌≤◌, zero-le}
+use Prim.Native.Nat.{zero-le}
 use native.Mathlib.Omega.{arith}
-use lib.ListN.{get_or}
-use Rattle.laws.specs.Lists.{put, put-none, put-turn, put-end}
-use Rattle.lanes.specs.Lanes.{eights}
-use Rattle.endpoints_unquantise.specs.Closed.{copied}
+use Rattle.laws.specs.Lists.{put-none, put-turn, put-end}
 use Rattle.endpoints_unquantise.proofs.copy_all.Goals as goal
 
 pub loop-i-init : goal.loop-i-init

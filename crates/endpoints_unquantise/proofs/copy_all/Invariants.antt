@@ -1,9 +1,8 @@
 -- `endpoints_unquantise::copy_all` fills the first places with the bytes of the values, one a turn. Assumes nothing.
 use mathlib.Core.Path.{◌≡◌}
-use Prim.Native.Nat.{ℕ, ◌-◌, ◌≤◌, zero-le}
-use native.Mathlib.Omega.{arith}
+use Prim.Native.Nat.{ℕ, ◌-◌, ◌≤◌}
 use lib.ListN.{get_or}
-use Rattle.laws.specs.Lists.{put, put-none, put-turn, put-end}
+use Rattle.laws.specs.Lists.{put}
 use Rattle.lanes.specs.Lanes.{eights}
 use Rattle.endpoints_unquantise.specs.Closed.{copied}
 use Rattle.endpoints_unquantise.proofs.copy_all.Given as goal

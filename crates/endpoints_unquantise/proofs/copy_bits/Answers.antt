@@ -1,7 +1,6 @@
 -- The sum fits 16 bits, and its remainder is the closed form.
 use mathlib.Core.Path.{refl}
 use native.Mathlib.Omega.{arith}
-use borrow.Author.Rules.{rules}
 use Rattle.endpoints_unquantise.specs.Closed.{copied, copied-most}
 use Rattle.endpoints_unquantise.proofs.copy_bits.Goals as goal
 

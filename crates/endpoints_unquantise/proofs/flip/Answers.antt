@@ -1,6 +1,5 @@
 -- Both ways out are the definition's cases.
 use borrow.Author.Tests.{eq-eqb, ne_eqb}
-use borrow.Author.Rules.{rules}
 use Rattle.endpoints_unquantise.proofs.flip.Goals as goal
 
 pub returns-then-v-eq0 : goal.returns-then-v-eq0

@@ -2,7 +2,6 @@
 use mathlib.Core.Path.{◌∙◌}
 use native.Mathlib.Omega.{arith}
 use lib.Pow.{pow_pos}
-use borrow.Author.Rules.{rules}
 use Rattle.endpoints_unquantise.specs.Closed.{unpacked, parts, one_shl}
 use Rattle.endpoints_unquantise.proofs.unpack.Goals as goal
 

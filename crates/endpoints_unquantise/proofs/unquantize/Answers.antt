@@ -1,7 +1,6 @@
 -- What either loop fills is the list of the range's bytes.
 use native.Mathlib.Omega.{arith}
 use Rattle.endpoints_unquantise.specs.Closed.{unpacked, copied, all-filled}
-use borrow.Author.Rules.{rules}
 use Rattle.endpoints_unquantise.proofs.unquantize.Goals as goal
 
 pub returns-then-q-eq2 : goal.returns-then-q-eq2
