@@ -9,7 +9,6 @@ use Rattle.sequence_ranges.specs.Ranges.{range, ranges, range_of, base}
 use Rattle.sequence_ranges.specs.declared.Kind.{Kind}
 use Rattle.sequence_ranges.specs.declared.Kind.TheVariants.{Plain, Trits, Quints}
 use Rattle.sequence_ranges.specs.declared.Range.{Range}
-use borrow.Author.Rules.{rules}
 use Rattle.sequence_ranges.proofs.range_of.Goals as goal
 
 -- what the code computes

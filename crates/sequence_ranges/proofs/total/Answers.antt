@@ -6,7 +6,6 @@ use native.Mathlib.Nat.{mul-zero, add-zero}
 use Rattle.footprint.specs.Footprints.{most_weights}
 use Rattle.sequence_ranges.specs.Ranges.{total_of}
 use Rattle.sequence_ranges.specs.RangeLaws.{bits-le}
-use borrow.Author.Rules.{rules}
 use Rattle.sequence_ranges.proofs.total.Goals as goal
 
 pub overflow_mul-plain : goal.overflow_mul-plain
@@ -23,12 +22,12 @@ overflow_add-result-in-Quints-2 c =
 pub returns-in-Plain : goal.returns-in-Plain
 unfolding total_of
 returns-in-Plain c =
-    let a = c.args in rw (c.enum_told-1.given.1, mul-zero a.n) (sym (add-zero (a.n * a.r.bits)))
+    let a = c.args in rw (c.in-Plain.is, mul-zero a.n) (sym (add-zero (a.n * a.r.bits)))
 
 pub returns-in-Trits : goal.returns-in-Trits
 unfolding total_of
-returns-in-Trits c = rw c.enum_told-in-Trits-1.given.1
+returns-in-Trits c = rw c.in-Trits.is
 
 pub returns-in-Quints : goal.returns-in-Quints
 unfolding total_of
-returns-in-Quints c = rw c.enum_told-in-Quints-1.given.1
+returns-in-Quints c = rw c.in-Quints.is

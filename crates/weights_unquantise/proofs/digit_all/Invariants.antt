@@ -1,0 +1,13 @@
+-- The places before i hold the product of what the sequence has there.
+use mathlib.Core.Path.{◌≡◌}
+use Prim.Native.Nat.{ℕ, ◌*◌, ◌-◌, ◌≤◌}
+use Rattle.lanes.specs.Lanes.{eights}
+use lib.ListN.{get_or}
+use Rattle.laws.specs.Lists.{put}
+use Rattle.weights_unquantise.proofs.digit_all.Given as goal
+
+abbrev pub invariant-loop-i : goal.invariant-loop-i
+invariant-loop-i l = (l.i ≤ eights l.n) × (l.out ≡ put (λ (k : ℕ). get_or l.seq k 0 * l.by) 0 l.i l.initial.out)
+
+abbrev pub decreases-loop-i : goal.decreases-loop-i
+decreases-loop-i l = eights l.n - l.i

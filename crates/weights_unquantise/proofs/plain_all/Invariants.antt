@@ -1,0 +1,15 @@
+-- The places before i hold the form of what the sequence has there.
+use Prim.Native.Nat.{ℕ, ◌-◌, ◌≤◌}
+use Rattle.weights_unquantise.specs.Forms.{plain_of}
+use Rattle.lanes.specs.Lanes.{eights}
+use mathlib.Core.Path.{◌≡◌}
+use lib.ListN.{get_or}
+use Rattle.laws.specs.Lists.{put}
+use Rattle.weights_unquantise.proofs.plain_all.Given as goal
+
+abbrev pub invariant-loop-i : goal.invariant-loop-i
+invariant-loop-i l =
+    (l.i ≤ eights l.n) × (l.out ≡ put (λ (k : ℕ). plain_of l.by l.over (get_or l.seq k 0)) 0 l.i l.initial.out)
+
+abbrev pub decreases-loop-i : goal.decreases-loop-i
+decreases-loop-i l = eights l.n - l.i
