@@ -1,6 +1,6 @@
 -- The laws of groups: what the code's shifts and stores make of them, and that a group depends on its own bits alone.
 -- Assumes nothing.
-use Rattle.std.specs.Prelude.{◌≡◌, refl, ℕ, zero, suc, ◌+◌, ◌*◌, ◌-◌, ◌/◌, ◌%◌, ◌^◌, ◌≤◌, ◌<◌, T, ltb}
+use Rattle.std.specs.Prelude.{◌≡◌, refl, ℕ, zero, suc, ◌+◌, ◌*◌, ◌/◌, ◌%◌, ◌^◌, ◌≤◌, ◌<◌, T, ltb}
 use Rattle.std.proofs.Math.Path.{sym, ap}
 use Rattle.std.proofs.Common.{◌∙◌, lt_of_lt_of_le, lt_of_le_of_lt, le_trans, le_of_lt, mod-lt, mul-le-mul_right, zero-add, one-mul, suc-mul, div-one, arith, ltb→lt, lit<, lit≤, Fits}
 use Rattle.std.proofs.Math.Nat.{zero-mul, sub_self, add-sub_cancel_left}

@@ -1,7 +1,7 @@
 -- `partition_ramps::hash` meets its contract: step by step, each sum and difference of 32 bits as the one over whole numbers. Assumes nothing.
 use Rattle.partition_ramps.specs.RampLaws.{hash-steps, wrapped-sub, wrapped-add}
 use Rattle.partition_ramps.specs.Ramps.{xor_down}
-use Rattle.std.proofs.Common.{ℕ, ◌*◌, ◌%◌, ◌^◌, ◌∙◌, arith, rules}
+use Rattle.std.proofs.Common.{ℕ, ◌*◌, ◌%◌, ◌^◌, ◌∙◌, arith}
 use Rattle.partition_ramps.proofs.hash.Goals as goal
 
 pub returns : goal.returns

@@ -1,6 +1,6 @@
 -- `partition_ramps::ramp_of` meets its contract: the slopes are the factors of the hash, doubled where the standard doubles the coordinates. Assumes nothing.
 use Rattle.partition_ramps.specs.Ramps.{factor}
-use Rattle.std.proofs.Common.{◌+◌, ◌*◌, ap, ◌∙◌, mul-le-mul, arith, rules}
+use Rattle.std.proofs.Common.{◌+◌, ◌*◌, ap, ◌∙◌, mul-le-mul, arith}
 use Rattle.partition_ramps.specs.RampLaws.{x-bounds, y-bounds, ramp-made}
 use Rattle.partition_ramps.proofs.ramp_of.Goals as goal
 

@@ -1,6 +1,6 @@
 -- `partition_ramps::shift_y` meets its contract by its test. Assumes nothing.
 use Rattle.partition_ramps.specs.Ramps.{shift_y}
-use Rattle.std.proofs.Common.{sym, ◌∙◌, rules, eq-eqb, ne_eqb}
+use Rattle.std.proofs.Common.{sym, ◌∙◌, eq-eqb, ne_eqb}
 use Rattle.partition_ramps.proofs.shift_y.Goals as goal
 
 pub returns-then-seed-eq1 : goal.returns-then-seed-eq1

@@ -1,7 +1,7 @@
 -- `partition_ramps::slope` meets its contract: a square of four bits, shifted by four or more, is at most 14. Assumes nothing.
 use Rattle.partition_ramps.specs.Ramps.{factor}
 use Rattle.partition_ramps.specs.RampLaws.{square_le, factor-le}
-use Rattle.std.proofs.Common.{◌/◌, ◌%◌, ◌^◌, refl, arith, rules}
+use Rattle.std.proofs.Common.{◌/◌, ◌%◌, ◌^◌, refl, arith}
 use Rattle.partition_ramps.proofs.slope.Goals as goal
 
 pub overflow_mul-result : goal.overflow_mul-result

@@ -1,0 +1,48 @@
+-- Each arm has the promise of its number of bits.
+use lib.Dec.{lit≤}
+use Rattle.sequence_ranges.specs.declared.Kind.TheVariants.{Trits}
+use Rattle.sequence_groups.specs.SequenceLaws.{values-arm, values-last}
+use Rattle.sequence_values.proofs.decode_trits_by.Goals as goal
+
+pub decode_trits-requires : goal.decode_trits-requires
+decode_trits-requires c = (c.requires.0, c.requires.1, lit≤ tt, c.requires.3)
+
+pub decode_trits-requires-in-1 : goal.decode_trits-requires-in-1
+decode_trits-requires-in-1 c = (c.requires.0, c.requires.1, lit≤ tt, c.requires.3)
+
+pub decode_trits-requires-in-2 : goal.decode_trits-requires-in-2
+decode_trits-requires-in-2 c = (c.requires.0, c.requires.1, lit≤ tt, c.requires.3)
+
+pub decode_trits-requires-in-3 : goal.decode_trits-requires-in-3
+decode_trits-requires-in-3 c = (c.requires.0, c.requires.1, lit≤ tt, c.requires.3)
+
+pub decode_trits-requires-in-4 : goal.decode_trits-requires-in-4
+decode_trits-requires-in-4 c = (c.requires.0, c.requires.1, lit≤ tt, c.requires.3)
+
+pub decode_trits-requires-in-5 : goal.decode_trits-requires-in-5
+decode_trits-requires-in-5 c = (c.requires.0, c.requires.1, lit≤ tt, c.requires.3)
+
+pub decode_trits-requires-in_default : goal.decode_trits-requires-in_default
+decode_trits-requires-in_default c = (c.requires.0, c.requires.1, lit≤ tt, c.requires.3)
+
+pub returns-in-0 : goal.returns-in-0
+returns-in-0 c = values-arm Trits _ _ _ _ _ c.decode_trits.ensures c.in-0.is
+
+pub returns-in-1 : goal.returns-in-1
+returns-in-1 c = values-arm Trits _ _ _ _ _ c.decode_trits-in-1.ensures c.in-1.is
+
+pub returns-in-2 : goal.returns-in-2
+returns-in-2 c = values-arm Trits _ _ _ _ _ c.decode_trits-in-2.ensures c.in-2.is
+
+pub returns-in-3 : goal.returns-in-3
+returns-in-3 c = values-arm Trits _ _ _ _ _ c.decode_trits-in-3.ensures c.in-3.is
+
+pub returns-in-4 : goal.returns-in-4
+returns-in-4 c = values-arm Trits _ _ _ _ _ c.decode_trits-in-4.ensures c.in-4.is
+
+pub returns-in-5 : goal.returns-in-5
+returns-in-5 c = values-arm Trits _ _ _ _ _ c.decode_trits-in-5.ensures c.in-5.is
+
+pub returns-in_default : goal.returns-in_default
+returns-in_default c =
+    values-last Trits _ _ _ _ _ c.decode_trits-in_default.ensures c.requires.2 c.in_default.in_default-own.rest
