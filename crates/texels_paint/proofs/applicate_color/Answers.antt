@@ -18,7 +18,7 @@ paint_hdr-requires c =
 
 pub paint_any-requires : goal.paint_any-requires
 paint_any-requires c =
-    let p = c.requires in ((p.few, c.starts_of.ensures.1), (p.within, (p.light, λ (i : ℕ). omega (arith, p.mapped i))))
+    let p = c.requires in record { n_le_most_texels = (p.few, c.starts_of.ensures.1); by_index = p.within; by_index_2 = p.light; by_index_3 = λ (i : ℕ). omega (arith, p.mapped i) }
 
 pub returns : goal.returns
 returns c = search as-any

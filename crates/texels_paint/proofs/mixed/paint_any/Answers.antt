@@ -15,18 +15,18 @@ loop-i-init c = (zero-le, put-none _ 0 _)
 
 pub offset_bounds-ends-place : goal.offset_bounds-ends-place
 offset_bounds-ends-place c =
-    let inside : c.place.result < 4 = rw c.place.ensures (c.requires.1.1.1 c.loop-i.i) in
+    let inside : c.place.result < 4 = rw c.place.ensures (c.requires.by_index_3 c.loop-i.i) in
     omega (arith, inside)
 
 pub bounds-ends-place : goal.bounds-ends-place
 bounds-ends-place c =
-    let inside : c.place.result < 4 = rw c.place.ensures (c.requires.1.1.1 c.loop-i.i) in
+    let inside : c.place.result < 4 = rw c.place.ensures (c.requires.by_index_3 c.loop-i.i) in
     inside
 
 pub texel-x-requires : goal.texel-x-requires
 texel-x-requires c =
-    let p = c.requires.1 in
-    (p.0 _, p.1.0 _, p.1.0 _, p.1.0 _, p.1.0 _)
+    let p = c.requires in
+    (p.by_index _, p.by_index_2 _, p.by_index_2 _, p.by_index_2 _, p.by_index_2 _)
 
 pub loop-i-preserved : goal.loop-i-preserved
 loop-i-preserved c =
