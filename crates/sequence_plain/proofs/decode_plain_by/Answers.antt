@@ -1,7 +1,8 @@
 -- Each arm has the promise of its number of bits.
 use lib.Dec.{lit≤}
 use Rattle.sequence_ranges.specs.declared.Kind.TheVariants.{Plain}
-use Rattle.sequence_groups.specs.SequenceLaws.{values-arm, values-last}
+use native.Mathlib.Omega.{arith}
+use Rattle.sequence_groups.specs.SequenceLaws.{values-arm}
 use Rattle.sequence_plain.proofs.decode_plain_by.Goals as goal
 
 pub decode_plain-requires : goal.decode_plain-requires
@@ -57,4 +58,4 @@ returns-in-7 c = values-arm Plain _ _ _ _ _ c.decode_plain-in-7.ensures c.in-7.i
 
 pub returns-in_default : goal.returns-in_default
 returns-in_default c =
-    values-last Plain _ _ _ _ _ c.decode_plain-in_default.ensures c.requires.1 c.in_default.in_default-own.rest
+    values-arm Plain _ _ _ _ _ c.decode_plain-in_default.ensures (omega arith)

@@ -1,7 +1,8 @@
 -- Each arm has the promise of its number of bits.
 use lib.Dec.{lit≤}
 use Rattle.sequence_ranges.specs.declared.Kind.TheVariants.{Quints}
-use Rattle.sequence_groups.specs.SequenceLaws.{values-arm, values-last}
+use native.Mathlib.Omega.{arith}
+use Rattle.sequence_groups.specs.SequenceLaws.{values-arm}
 use Rattle.sequence_values.proofs.decode_quints_by.Goals as goal
 
 pub decode_quints-requires : goal.decode_quints-requires
@@ -39,4 +40,4 @@ returns-in-4 c = values-arm Quints _ _ _ _ _ c.decode_quints-in-4.ensures c.in-4
 
 pub returns-in_default : goal.returns-in_default
 returns-in_default c =
-    values-last Quints _ _ _ _ _ c.decode_quints-in_default.ensures c.requires.2 c.in_default.in_default-own.rest
+    values-arm Quints _ _ _ _ _ c.decode_quints-in_default.ensures (omega arith)

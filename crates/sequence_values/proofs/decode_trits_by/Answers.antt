@@ -1,7 +1,8 @@
 -- Each arm has the promise of its number of bits.
 use lib.Dec.{lit≤}
 use Rattle.sequence_ranges.specs.declared.Kind.TheVariants.{Trits}
-use Rattle.sequence_groups.specs.SequenceLaws.{values-arm, values-last}
+use native.Mathlib.Omega.{arith}
+use Rattle.sequence_groups.specs.SequenceLaws.{values-arm}
 use Rattle.sequence_values.proofs.decode_trits_by.Goals as goal
 
 pub decode_trits-requires : goal.decode_trits-requires
@@ -45,4 +46,4 @@ returns-in-5 c = values-arm Trits _ _ _ _ _ c.decode_trits-in-5.ensures c.in-5.i
 
 pub returns-in_default : goal.returns-in_default
 returns-in_default c =
-    values-last Trits _ _ _ _ _ c.decode_trits-in_default.ensures c.requires.2 c.in_default.in_default-own.rest
+    values-arm Trits _ _ _ _ _ c.decode_trits-in_default.ensures (omega arith)
