@@ -19,8 +19,8 @@ overflow_mul-k-2 c =
 pub decode_intseq_reverse-requires : goal.decode_intseq_reverse-requires
 decode_intseq_reverse-requires c =
     let p = c.requires in
-    let k = p.1.1 in
-    (refl, p.1.0.trits, p.1.0.quints, range-legal _ _ (omega (arith, k.facts.weight-range)) c.range_of.ensures, k.fits.few)
+    let k = p.ready in
+    (refl, p.lent.trits, p.lent.quints, range-legal _ _ (omega (arith, k.facts.weight-range)) c.range_of.ensures, k.fits.few)
 
 pub decode_weights-requires : goal.decode_weights-requires
 decode_weights-requires c =
