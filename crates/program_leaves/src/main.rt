@@ -4,14 +4,15 @@
 // bounds.
 #![tactic(auto)]
 
-use libc::STDOUT_FILENO;
-
 mod colours;
 mod frame;
 mod grids;
 mod numbers;
 mod parameters;
 mod sequences;
+
+// The number of the standard output.
+const STDOUT: i32 = 1;
 
 fn reply(out: &mut [u8; 288], ask: &[u8; 32]) {
     let what = frame::at(ask, 0);
@@ -31,7 +32,7 @@ fn reply(out: &mut [u8; 288], ask: &[u8; 32]) {
 }
 
 fn send(out: &[u8; 288]) -> bool {
-    io::write_all(STDOUT_FILENO, &out[..])
+    io::write_all(STDOUT, &out[..])
 }
 
 // Answers one request, and says whether there was one.

@@ -4,7 +4,8 @@
 ghost use Rattle.std.specs.Prelude.{◌≡◌, ◌+◌, ◌≤◌, length};
 ghost use Rattle.program_text.specs.Text.{decimal, count_line, Placed};
 
-use libc::STDOUT_FILENO;
+// The number of the standard output.
+const STDOUT: i32 = 1;
 
 // Puts a text into the line at a place, and gives the place after it.
 pub fn put_text(line: &mut [u8], at: usize, text: &[u8]) -> usize
@@ -49,6 +50,6 @@ pub fn print_count(label: &[u8], count: usize) -> usize
 {
     let mut line = [0u8; 64];
     let end = lay_out_count(&mut line, label, count);
-    io::write_all(STDOUT_FILENO, &line[..end]);
+    io::write_all(STDOUT, &line[..end]);
     end
 }

@@ -1,7 +1,6 @@
 -- A label, a count and a newline, one after the other.
 use Rattle.program_text.specs.TextLaws.{placed-next}
 use native.Mathlib.Omega.{arith}
-use borrow.Author.Rules.{rules}
 use Rattle.program_text.proofs.lay_out_count.Goals as goal
 
 pub returns : goal.returns

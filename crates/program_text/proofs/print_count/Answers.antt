@@ -7,4 +7,4 @@ use Rattle.program_text.proofs.print_count.Goals as goal
 pub slice_bounds-write_all-end : goal.slice_bounds-write_all-end
 slice_bounds-write_all-end c =
     let l = c.lay_out_count-end in
-    sym (length-take-le l.result l.new.0 (search rules))
+    sym (length-take-le l.result l.new.line (search rules))

@@ -2,7 +2,6 @@
 use lib.ListN.{length, length-set}
 use lib.Seq.{paste, paste-zero}
 use Rattle.program_text.specs.TextLaws.{placed-turn, placed-whole}
-use Prim.Native.Nat.{◌-◌, ◌≤◌}
 use mathlib.Core.Path.{◌≡◌, refl, ap, ◌∙◌}
 use native.Mathlib.Omega.{arith}
 use Rattle.program_text.proofs.put_text.Goals as goal

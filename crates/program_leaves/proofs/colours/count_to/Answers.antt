@@ -1,0 +1,28 @@
+-- `program_leaves::count_to` meets its contract: each turn adds the values of one mode more. Assumes nothing.
+use native.Mathlib.Numerals.{add-one}
+use Rattle.endpoints.specs.Endpoints.{count_to}
+use mathlib.Core.Path.{refl, ap, ◌∙◌}
+use native.Mathlib.Omega.{arith}
+use Rattle.program_leaves.proofs.colours.count_to.Goals as goal
+
+pub loop-i-init : goal.loop-i-init
+unfolding count_to
+loop-i-init c = (omega arith, (refl, omega arith))
+
+pub overflow_add-n : goal.overflow_add-n
+overflow_add-n c = omega (arith, c.usize_of.ensures.1)
+
+pub overflow_mul-n : goal.overflow_mul-n
+overflow_mul-n c = omega (arith, c.usize_of.ensures.1)
+
+pub overflow_add-n-in-loop-i : goal.overflow_add-n-in-loop-i
+overflow_add-n-in-loop-i c = omega (arith, c.usize_of.ensures.1)
+
+pub loop-i-preserved : goal.loop-i-preserved
+unfolding count_to
+loop-i-preserved c =
+    let l = c.loop-i in
+    (omega arith, (rw (add-one l.i, c.usize_of.ensures.0, l.invariant.1.0), omega (arith, c.usize_of.ensures.1)))
+
+pub returns : goal.returns
+returns c = c.loop-i.invariant.1.0 ∙ ap (count_to c.args.modes) (omega arith)
