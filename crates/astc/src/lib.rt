@@ -1,5 +1,4 @@
-// The C surface: each function takes unchecked input and answers by number. A slice is a pointer
-// and a length.
+// What the C surface calls: each function takes unchecked input and answers by number.
 #![tactic(auto)]
 
 ghost use Rattle.std.specs.Prelude.{◌≡◌, length};
@@ -15,10 +14,8 @@ use footprint::Footprint;
 use image::Cursor;
 use image_shape::Shape;
 
-// uint32_t astc_decode_block(const uint8_t *block, size_t block_len, size_t bw, size_t bh, uint32_t
-// *out, size_t out_len)
-#[unsafe(no_mangle)]
-pub extern "C" fn astc_decode_block(block: &[u8], bw: usize, bh: usize, out: &mut [u32]) -> u32
+// Paints the words of a block and answers by its number.
+pub fn astc_decode_block(block: &[u8], bw: usize, bh: usize, out: &mut [u32]) -> u32
     ensures value { result ≡
         answer_of block.now (footprint bw bh) (length out.old) }
     ensures out_after { out.new ≡
@@ -31,10 +28,8 @@ pub extern "C" fn astc_decode_block(block: &[u8], bw: usize, bh: usize, out: &mu
     block::decode_astc_block(block, f, out) as u32
 }
 
-// uint32_t astc_block_map(const uint8_t *block, size_t block_len, size_t bw, size_t bh, uint32_t
-// *map, size_t map_len)
-#[unsafe(no_mangle)]
-pub extern "C" fn astc_block_map(block: &[u8], bw: usize, bh: usize, map: &mut [u32]) -> u32
+// Writes a block's map and answers by the block's number.
+pub fn astc_block_map(block: &[u8], bw: usize, bh: usize, map: &mut [u32]) -> u32
     ensures value { result ≡
         map_answer_in (block_map block.now (footprint bw bh))
         (length map.old) }
@@ -44,10 +39,8 @@ pub extern "C" fn astc_block_map(block: &[u8], bw: usize, bh: usize, map: &mut [
     astc_numbers::put_map(block, bw, bh, map) as u32
 }
 
-// uint32_t astc_block_channels(uint32_t options, const uint8_t *block, size_t block_len, size_t bw,
-// size_t bh, uint32_t *channels, size_t channels_len, uint8_t *floats, size_t floats_len)
-#[unsafe(no_mangle)]
-pub extern "C" fn astc_block_channels(
+// Writes a block's channels by options and answers by the block's number.
+pub fn astc_block_channels(
     options: u32,
     block: &[u8],
     bw: usize,
@@ -76,10 +69,8 @@ pub extern "C" fn astc_block_channels(
     block_channels::decode_channels(block, f, channels, floats) as u32
 }
 
-// uint32_t astc_decode_image(const uint8_t *data, size_t data_len, size_t width, size_t height,
-// size_t bw, size_t bh, uint32_t *out, size_t out_len)
-#[unsafe(no_mangle)]
-pub extern "C" fn astc_decode_image(
+// Paints the words of an image and answers by number.
+pub fn astc_decode_image(
     data: &[u8],
     width: usize,
     height: usize,
@@ -105,11 +96,8 @@ pub extern "C" fn astc_decode_image(
     image::decode_astc(data, m, out) as u32
 }
 
-// uint32_t astc_image_step(const uint8_t *data, size_t data_len, size_t width, size_t height,
-// size_t bw, size_t bh, size_t next, size_t blocks, uint32_t *out, size_t out_len, uint64_t *moved,
-// size_t moved_len)
-#[unsafe(no_mangle)]
-pub extern "C" fn astc_image_step(
+// Paints the next blocks of an image, leads its cursor on and answers by number.
+pub fn astc_image_step(
     data: &[u8],
     width: usize,
     height: usize,
