@@ -1,7 +1,7 @@
 -- How large the answer of a block and the numbers of its map are, and the ways out of the map.
 -- Assumes nothing.
 use Rattle.std.specs.Prelude.{◌≡◌, refl, Bool, true, false, cond, List, eqb, leb, length}
-use Rattle.std.proofs.Common.{sym, ap, ◌∙◌, leb→le}
+use Rattle.std.proofs.Common.{sym, ◌∙◌, leb→le}
 use Prim.Native.Nat.{ℕ, ◌≤◌, ◌<◌}
 use native.Mathlib.Omega.{arith}
 use borrow.Author.Tests.{ne_eqb, eqb-true, eqb-false}

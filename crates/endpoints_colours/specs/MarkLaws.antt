@@ -3,7 +3,7 @@
 use Rattle.std.specs.Prelude.{◌≡◌, refl, Bool, true, false, cond, ◌⊎◌, List, [], ◌∷◌, ℕ, ◌<◌, T, eqb}
 use Rattle.std.proofs.Common.{sym, subst, ap, inl, inr, ⊎_elim, eqb→eq}
 use Rattle.std.proofs.lemmas.Bool.{false≢true}
-use Rattle.laws.specs.Table.{all, all-at, both}
+use Rattle.laws.specs.Table.{all, all-at}
 use Rattle.endpoints_colours.specs.Marks.{is_hdr, marks_table, marks_of}
 use Rattle.endpoints_colours.specs.declared.Mark.{Mark}
 use Rattle.endpoints_colours.specs.declared.Mark.TheVariants.{Ldr, Hdr}

@@ -1,7 +1,6 @@
 -- The ways out of the test of a footprint: one for each width, by its heights.
 -- Assumes nothing.
-use Rattle.std.specs.Prelude.{◌≡◌, Bool, true, false, ℕ, eqb}
-use Rattle.std.proofs.Common.{sym, ◌∙◌}
+use Rattle.std.specs.Prelude.{◌≡◌, Bool, true, false, eqb}
 use borrow.Author.Tests.{ne_eqb}
 use Rattle.footprint.specs.Footprints.{one_of2, listed}
 use Rattle.footprint.specs.declared.Footprint.{Footprint}

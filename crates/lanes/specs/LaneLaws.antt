@@ -1,7 +1,7 @@
 -- The lanes of words: where they stand, and that they make their word again.
 -- Assumes nothing.
 use Rattle.std.specs.Prelude.{◌≡◌, List, ℕ, ◌+◌, ◌*◌, ◌/◌, ◌%◌, ◌≤◌, ◌<◌, set, length}
-use Rattle.std.proofs.Common.{sym, ◌∙◌, zero-le, arith}
+use Rattle.std.proofs.Common.{◌∙◌, zero-le, arith}
 use Rattle.laws.specs.Lists.{put, put_in, put-turn, put_same}
 use Rattle.footprint.specs.Footprints.{most_texels}
 use Rattle.lanes.specs.Lanes.{most_lanes, lane_at, joined_at, eights}

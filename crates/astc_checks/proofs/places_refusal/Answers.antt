@@ -1,7 +1,6 @@
 -- `astc_checks::places_refusal` meets its contract: each way out is a law of CheckLaws. Assumes nothing.
 use Rattle.astc_checks.specs.CheckLaws.{places-22, places-image, places-0}
 use native.Mathlib.Omega.{arith}
-use borrow.Author.Rules.{rules}
 use Rattle.astc_checks.proofs.places_refusal.Goals as goal
 
 pub returns-then-a-eq0 : goal.returns-then-a-eq0

@@ -4,7 +4,6 @@ use Prim.Native.Nat.{◌+◌, ◌-◌}
 use native.Mathlib.Omega.{arith}
 use Rattle.bits.specs.Blocks.{value_of}
 use Rattle.bits.specs.BitLaws.{join, bits-longer, words-lt}
-use borrow.Author.Rules.{rules}
 use Rattle.bits.proofs.cut.Goals as goal
 
 pub returns-then-len-le128 : goal.returns-then-len-le128

@@ -4,7 +4,6 @@ use Prim.Native.Nat.{ℕ, ◌-◌, ◌^◌, ◌<◌}
 use native.Mathlib.Omega.{arith}
 use Rattle.bits.specs.Blocks.{value_of}
 use Rattle.bits.specs.BitLaws.{bits-lt, bits-past, low-only, both_words, high-only, words-lt}
-use borrow.Author.Rules.{rules}
 use Rattle.bits.proofs.from.Goals as goal
 
 pub returns-then-start-eq0 : goal.returns-then-start-eq0

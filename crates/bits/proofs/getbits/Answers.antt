@@ -4,7 +4,6 @@ use native.Mathlib.Omega.{arith}
 use Rattle.bits.specs.Blocks.{value_of}
 use Rattle.bits.specs.BitLaws.{low_bits, bits-lt}
 use Rattle.bits.specs.Bits.{bits_at}
-use borrow.Author.Rules.{rules}
 use Rattle.bits.proofs.getbits.Goals as goal
 
 pub returns : goal.returns

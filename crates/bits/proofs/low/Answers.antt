@@ -3,7 +3,6 @@ use mathlib.Core.Path.{sym}
 use native.Mathlib.Nat.{mod-eq_of_lt, lt_of_lt_of_le}
 use lib.Pow.{pow_pos, pow_mono}
 use Rattle.bits.specs.BitLaws.{one_shl}
-use borrow.Author.Rules.{rules}
 use Rattle.bits.proofs.low.Goals as goal
 
 pub nonzero_rem-result : goal.nonzero_rem-result

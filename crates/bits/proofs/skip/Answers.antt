@@ -2,7 +2,6 @@
 use Prim.Native.Nat.{◌-◌}
 use native.Mathlib.Omega.{arith}
 use Rattle.bits.specs.BitLaws.{skipped, both-fit}
-use borrow.Author.Rules.{rules}
 use Rattle.bits.proofs.skip.Goals as goal
 
 pub overflow_add-result : goal.overflow_add-result

@@ -2,7 +2,6 @@
 use mathlib.Core.Path.{sym}
 use native.Mathlib.Omega.{arith}
 use Rattle.bits_reversal.specs.ReversalLaws.{reversed-words}
-use borrow.Author.Rules.{rules}
 use Rattle.bits_reversal.proofs.reverse.Goals as goal
 
 pub returns : goal.returns

@@ -1,6 +1,5 @@
 -- `blend::hdr_half` meets its contract: the three pieces of the logarithm as one sum. Assumes nothing.
 use Rattle.blend.specs.BlendLaws.{half_is}
-use borrow.Author.Rules.{rules}
 use Rattle.blend.proofs.hdr_half.Goals as goal
 
 pub returns : goal.returns

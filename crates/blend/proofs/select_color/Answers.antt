@@ -1,7 +1,6 @@
 -- `blend::select_color` meets its contract: the sum is below 64 times the larger endpoint. Assumes nothing.
 use Rattle.blend.specs.BlendLaws.{shares-most, ldr-is}
 use native.Mathlib.Omega.{arith}
-use borrow.Author.Rules.{rules}
 use Rattle.blend.proofs.select_color.Goals as goal
 
 pub overflow_mul-c : goal.overflow_mul-c

@@ -2,7 +2,6 @@
 use Rattle.blend.specs.BlendLaws.{shares-most, ldr-closed}
 use mathlib.Core.Path.{sym}
 use native.Mathlib.Omega.{arith}
-use borrow.Author.Rules.{rules}
 use Rattle.blend.proofs.select_color_byte.Goals as goal
 
 pub overflow_mul-v : goal.overflow_mul-v

@@ -1,6 +1,5 @@
 -- `blend::select_color_hdr` meets its contract: the half's byte. Assumes nothing.
 use Rattle.blend.specs.BlendLaws.{hdr-is}
-use borrow.Author.Rules.{rules}
 use Rattle.blend.proofs.select_color_hdr.Goals as goal
 
 pub hdr_to_u8-requires : goal.hdr_to_u8-requires

@@ -1,7 +1,6 @@
 -- `blend::select_half` meets its contract: the common factor of 16 is taken out of the sum. Assumes nothing.
 use Rattle.blend.specs.BlendLaws.{shares-most, hdr-half-is}
 use native.Mathlib.Omega.{arith}
-use borrow.Author.Rules.{rules}
 use Rattle.blend.proofs.select_half.Goals as goal
 
 pub overflow_mul-v0 : goal.overflow_mul-v0

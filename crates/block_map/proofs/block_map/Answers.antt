@@ -2,7 +2,6 @@
 use Rattle.block_refusal.specs.RefusalLaws.{first-accepted}
 use Rattle.block_map.specs.AnswerLaws.{map-refused, map-block}
 use mathlib.Core.Path.{sym, ◌∙◌}
-use borrow.Author.Rules.{rules}
 use Rattle.block_map.proofs.block_map.Goals as goal
 
 pub returns-then-a-ne0 : goal.returns-then-a-ne0

@@ -2,7 +2,6 @@
 use Rattle.block_refusal.specs.RefusalLaws.{first-20, first-21, first-0}
 use mathlib.Core.Path.{sym, ◌∙◌}
 use native.Mathlib.Omega.{arith}
-use borrow.Author.Rules.{rules}
 use Rattle.block_refusal.proofs.first_refusal.Goals as goal
 
 pub returns-then-len-ne16 : goal.returns-then-len-ne16

@@ -3,7 +3,6 @@ use Rattle.block_refusal.specs.RefusalLaws.{first-accepted, texel-first, texel-0
 use Rattle.footprint.specs.Sides.{sides-of}
 use native.Mathlib.Omega.{arith}
 use mathlib.Core.Path.{sym, ◌∙◌}
-use borrow.Author.Rules.{rules}
 use Rattle.block_refusal.proofs.texel_refusal.Goals as goal
 
 pub returns-then-a-ne0 : goal.returns-then-a-ne0

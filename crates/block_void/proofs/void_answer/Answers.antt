@@ -1,7 +1,6 @@
 -- The answer is chosen by the test of the definition.
 use Rattle.block_void.specs.VoidLaws.{told-void, told-other}
 use mathlib.Core.Path.{sym, ◌∙◌}
-use borrow.Author.Rules.{rules}
 use Rattle.block_void.proofs.void_answer.Goals as goal
 
 pub returns-then-is_void : goal.returns-then-is_void

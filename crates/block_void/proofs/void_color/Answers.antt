@@ -1,6 +1,5 @@
 -- Bit 9 says which of the two readings.
 use Rattle.block_void.specs.VoidLaws.{void-halves, void-bytes}
-use borrow.Author.Rules.{rules}
 use Rattle.block_void.proofs.void_color.Goals as goal
 
 pub returns-then-getbits-eq1 : goal.returns-then-getbits-eq1

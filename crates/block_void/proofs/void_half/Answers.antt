@@ -1,7 +1,6 @@
 -- A half of 16 bits goes on as it is.
 use Rattle.half.specs.Half.{void_byte_of}
 use mathlib.Core.Path.{ap, ◌∙◌}
-use borrow.Author.Rules.{rules}
 use Rattle.block_void.proofs.void_half.Goals as goal
 
 pub returns : goal.returns

@@ -1,6 +1,5 @@
 -- `block_void::void_samples` meets its contract: bit 9 says which of the two readings. Assumes nothing.
 use Rattle.block_void.specs.VoidLaws.{samples-halves, samples-bytes}
-use borrow.Author.Rules.{rules}
 use Rattle.block_void.proofs.void_samples.Goals as goal
 
 pub returns-then-form-eq1 : goal.returns-then-form-eq1

@@ -2,7 +2,6 @@
 use mathlib.Core.Path.{sym, ap, ◌∙◌}
 use Rattle.channels.specs.Channels.{channel_of}
 use Rattle.channels.specs.declared.Channel.TheVariants.{Float}
-use borrow.Author.Rules.{rules}
 use Rattle.channels.proofs.channel_of.Goals as goal
 
 pub returns-in-Byte : goal.returns-in-Byte

@@ -1,7 +1,6 @@
 -- `channels::pattern_byte` meets its contract: each way out is a law of Patterns. Assumes nothing.
 use Prim.Native.Nat.{◌-◌, ◌/◌, ◌<◌}
 use native.Mathlib.Omega.{arith}
-use borrow.Author.Rules.{rules}
 use Rattle.channels.proofs.Patterns.{finite-field, ret-infinite, ret-minus, ret-one, ret-none, shift-lt, ret-shifted}
 use Rattle.channels.proofs.pattern_byte.Goals as goal
 

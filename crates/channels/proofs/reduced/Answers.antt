@@ -1,6 +1,5 @@
 -- `channels::reduced` meets its contract: each arm is told what the channel and the rule are. Assumes nothing.
 use Rattle.channels.proofs.Patterns.{ret-float}
-use borrow.Author.Rules.{rules}
 use Rattle.channels.proofs.reduced.Goals as goal
 
 pub returns-in-Ordinary : goal.returns-in-Ordinary

@@ -1,5 +1,4 @@
 -- `channels::texel_of` meets its contract: four calls. Assumes nothing.
-use borrow.Author.Rules.{rules}
 use Rattle.channels.proofs.texel_of.Goals as goal
 
 pub returns : goal.returns

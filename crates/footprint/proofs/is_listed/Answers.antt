@@ -1,6 +1,5 @@
 -- `footprint::is_listed` tests the heights of the width's arm, as the definition does. Assumes nothing.
 use Rattle.footprint.specs.ListedLaws.{at-4, at_5, at-6, at-8-low, at_8, at-10-low, at-10, at-12, at_none}
-use borrow.Author.Rules.{rules}
 use Rattle.footprint.proofs.is_listed.Goals as goal
 
 pub returns-in-4 : goal.returns-in-4

@@ -1,6 +1,5 @@
 -- `half::f16_to_u8` meets its contract: a law for each way out. Assumes nothing.
 use native.Mathlib.Omega.{arith}
-use borrow.Author.Rules.{rules}
 use Rattle.half.proofs.Bytes.{void-plus, void-minus-infinity, void-none}
 use Rattle.half.proofs.f16_to_u8.Goals as goal
 

@@ -1,5 +1,4 @@
 -- `half::fp16_ieee_to_fp32_value` meets its contract: each need is a lemma of the files above. Assumes nothing.
-use borrow.Author.Rules.{rules}
 use Rattle.half.proofs.Halves.{ret-plus, ret-minus}
 use Rattle.half.proofs.fp16_ieee_to_fp32_value.Goals as goal
 

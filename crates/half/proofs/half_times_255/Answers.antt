@@ -1,5 +1,4 @@
 -- `half::half_times_255` meets its contract: each need is a lemma of the files above. Assumes nothing.
-use borrow.Author.Rules.{rules}
 use Rattle.half.proofs.Halves.{ret-times}
 use Rattle.half.proofs.half_times_255.Goals as goal
 

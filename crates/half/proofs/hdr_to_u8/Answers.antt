@@ -1,5 +1,4 @@
 -- `half::hdr_to_u8` meets its contract: the product's 2 ^ 23-fold is a whole number, which the casts keep. Assumes nothing.
-use borrow.Author.Rules.{rules}
 use lib.Ieee.{of_bits}
 use Rattle.half.proofs.Scaled.{from, to, widens, whole_in, no_sign, fits-32, fits_8, ret-hdr}
 use Rattle.half.proofs.hdr_to_u8.Goals as goal

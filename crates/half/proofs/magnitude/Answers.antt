@@ -1,5 +1,4 @@
 -- `half::magnitude` meets its contract: each need is a lemma of the files above. Assumes nothing.
-use native.Mathlib.Omega.{arith}
 use lib.Ieee.{nan_bits}
 use Rattle.half.proofs.Halves.{ret-inf, ret-nan, ret-tiny, ret-normal, pattern-no-nan, digits_in}
 use Rattle.half.proofs.magnitude.Goals as goal

@@ -4,7 +4,6 @@ use Rattle.image_shape.specs.ShapeLaws.{ShapeBounds}
 use native.Mathlib.Nat.{mul-le-mul}
 use native.Mathlib.Omega.{arith}
 use mathlib.Core.Path.{sym, ◌∙◌}
-use borrow.Author.Rules.{rules}
 use Rattle.image_shape.proofs.refusal.Goals as goal
 
 pub total-requires : goal.total-requires

@@ -1,7 +1,6 @@
 -- `image_shape::step_refusal` meets its contract: each way out is a law of ShapeLaws. Assumes nothing.
 use Rattle.image_shape.specs.ShapeLaws.{accepted, sized-bounded, step-image, step-33, step-34, step-0}
 use mathlib.Core.Path.{sym, ◌∙◌}
-use borrow.Author.Rules.{rules}
 use Rattle.image_shape.proofs.step_refusal.Goals as goal
 
 pub returns-then-a-ne0 : goal.returns-then-a-ne0

@@ -1,7 +1,6 @@
 -- Two numbers of at most 4107.
 use native.Mathlib.Nat.{mul-le-mul}
 use native.Mathlib.Omega.{arith}
-use borrow.Author.Rules.{rules}
 use Rattle.image_shape.proofs.total.Goals as goal
 
 pub overflow_mul-result : goal.overflow_mul-result

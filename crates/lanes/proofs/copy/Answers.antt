@@ -1,8 +1,6 @@
 -- `lanes::copy` meets its contract by its loop: before turn i the output has the words of the first i texels. Assumes nothing.
 use lib.ListN.{length}
-use Rattle.lanes.specs.Lanes.{joined_at}
-use Rattle.laws.specs.Lists.{put_at, put_at-none, put_at-turn, put_at-end, length-put_at}
-use Prim.Native.Nat.{ℕ, ◌+◌, ◌-◌, ◌≤◌}
+use Rattle.laws.specs.Lists.{put_at-none, put_at-turn, put_at-end, length-put_at}
 use mathlib.Core.Path.{◌≡◌, ap, ◌∙◌}
 use native.Mathlib.Omega.{arith}
 use Rattle.lanes.proofs.copy.Goals as goal

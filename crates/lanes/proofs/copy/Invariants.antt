@@ -1,10 +1,8 @@
 -- `lanes::copy` meets its contract by its loop: before turn i the output has the words of the first i texels. Assumes nothing.
-use lib.ListN.{length}
 use Rattle.lanes.specs.Lanes.{joined_at}
-use Rattle.laws.specs.Lists.{put_at, put_at-none, put_at-turn, put_at-end, length-put_at}
+use Rattle.laws.specs.Lists.{put_at}
 use Prim.Native.Nat.{ℕ, ◌+◌, ◌-◌, ◌≤◌}
-use mathlib.Core.Path.{◌≡◌, ap, ◌∙◌}
-use native.Mathlib.Omega.{arith}
+use mathlib.Core.Path.{◌≡◌}
 use Rattle.lanes.proofs.copy.Given as goal
 
 abbrev pub invariant-loop-i : goal.invariant-loop-i

@@ -1,7 +1,6 @@
 -- `lanes::fill` meets its contract by its loop: before turn k the first k places have the word. Assumes nothing.
 use lib.ListN.{length}
-use Rattle.laws.specs.Lists.{put_at, put_at-none, put_at-turn, put_at-end, length-put_at}
-use Prim.Native.Nat.{ℕ, ◌-◌, ◌≤◌}
+use Rattle.laws.specs.Lists.{put_at-none, put_at-turn, put_at-end, length-put_at}
 use mathlib.Core.Path.{◌≡◌, refl, ap, ◌∙◌}
 use native.Mathlib.Omega.{arith}
 use Rattle.lanes.proofs.fill.Goals as goal

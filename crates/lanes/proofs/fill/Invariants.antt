@@ -1,9 +1,7 @@
 -- `lanes::fill` meets its contract by its loop: before turn k the first k places have the word. Assumes nothing.
-use lib.ListN.{length}
-use Rattle.laws.specs.Lists.{put_at, put_at-none, put_at-turn, put_at-end, length-put_at}
+use Rattle.laws.specs.Lists.{put_at}
 use Prim.Native.Nat.{ℕ, ◌-◌, ◌≤◌}
-use mathlib.Core.Path.{◌≡◌, refl, ap, ◌∙◌}
-use native.Mathlib.Omega.{arith}
+use mathlib.Core.Path.{◌≡◌}
 use Rattle.lanes.proofs.fill.Given as goal
 
 abbrev pub invariant-loop-k : goal.invariant-loop-k

@@ -2,7 +2,6 @@
 use mathlib.Core.Path.{ap}
 use Prim.Native.Nat.{ℕ}
 use lib.Dec.{eqb}
-use borrow.Author.Rules.{rules}
 use Rattle.params_low.specs.Low.{is_void}
 use Rattle.params_low.proofs.is_void.Goals as goal
 

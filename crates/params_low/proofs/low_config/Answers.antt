@@ -6,7 +6,6 @@ use Rattle.bits.specs.Blocks.{value_of}
 use Rattle.bits.specs.BitLaws.{bits-lt}
 use Rattle.params_low.specs.Low.{low_of}
 use Rattle.params_low.specs.LowLaws.{conf-most}
-use borrow.Author.Rules.{rules}
 use Rattle.params_low.proofs.low_config.Goals as goal
 
 pub overflow_add-parts : goal.overflow_add-parts

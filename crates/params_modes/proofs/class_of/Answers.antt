@@ -1,6 +1,5 @@
 -- `params_modes::class_of` meets its contract: a law for each of its two ways. Assumes nothing.
 use Rattle.params_modes.specs.ModeLaws.{class-alone, class-based}
-use borrow.Author.Rules.{rules}
 use Rattle.params_modes.proofs.class_of.Goals as goal
 
 pub returns-then-base-eq0 : goal.returns-then-base-eq0

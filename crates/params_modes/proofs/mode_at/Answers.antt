@@ -1,6 +1,5 @@
 -- `params_modes::mode_at` meets its contract by its test. Assumes nothing.
 use borrow.Author.Tests.{lt-ltb, le-ltb}
-use borrow.Author.Rules.{rules}
 use Rattle.params_modes.proofs.mode_at.Goals as goal
 
 pub returns-then-i-parts : goal.returns-then-i-parts

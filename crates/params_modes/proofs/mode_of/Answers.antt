@@ -1,6 +1,5 @@
 -- `params_modes::mode_of` meets its contract: a law for each of its two ways. Assumes nothing.
 use Rattle.params_modes.specs.ModeLaws.{mode-alone, mode-based}
-use borrow.Author.Rules.{rules}
 use Rattle.params_modes.proofs.mode_of.Goals as goal
 
 pub returns-then-base-eq0 : goal.returns-then-base-eq0

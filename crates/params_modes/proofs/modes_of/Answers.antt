@@ -1,5 +1,4 @@
 -- `params_modes::modes_of` meets its contract: each of the four is the one that mode_at ensures. Assumes nothing.
-use borrow.Author.Rules.{rules}
 use Rattle.params_modes.proofs.modes_of.Goals as goal
 
 pub returns : goal.returns

@@ -2,8 +2,7 @@
 use Rattle.params_modes.specs.Modes.{values_to}
 use Rattle.params_modes.specs.ModeLaws.{values-most}
 use native.Mathlib.Numerals.{add-one}
-use Prim.Native.Nat.{◌≤◌, ◌-◌}
-use mathlib.Core.Path.{◌≡◌, refl, ap, ◌∙◌}
+use mathlib.Core.Path.{refl, ap, ◌∙◌}
 use native.Mathlib.Omega.{arith}
 use Rattle.params_modes.proofs.values_of.Goals as goal
 

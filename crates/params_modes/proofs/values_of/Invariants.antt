@@ -1,10 +1,7 @@
 -- `params_modes::values_of` meets its contract: each turn adds the values of one partition more. Assumes nothing.
 use Rattle.params_modes.specs.Modes.{values_to}
-use Rattle.params_modes.specs.ModeLaws.{values-most}
-use native.Mathlib.Numerals.{add-one}
 use Prim.Native.Nat.{◌≤◌, ◌-◌}
-use mathlib.Core.Path.{◌≡◌, refl, ap, ◌∙◌}
-use native.Mathlib.Omega.{arith}
+use mathlib.Core.Path.{◌≡◌}
 use Rattle.params_modes.proofs.values_of.Given as goal
 
 abbrev pub invariant-loop-i : goal.invariant-loop-i

@@ -1,12 +1,8 @@
 -- `program_compare::count_differences` meets its contract by its loop: each turn counts one word more. Assumes nothing.
-use native.Mathlib.Numerals.{add-one}
 use lib.ListN.{length}
 use Rattle.program_compare.specs.Compare.{differences}
-use Rattle.program_compare.specs.CompareLaws.{all-counted}
 use Prim.Native.Nat.{◌-◌, ◌≤◌}
-use mathlib.Core.Path.{◌≡◌, refl}
-use native.Mathlib.Omega.{arith}
-use borrow.Author.Rules.{rules}
+use mathlib.Core.Path.{◌≡◌}
 use Rattle.program_compare.proofs.count_differences.Given as goal
 
 abbrev pub invariant-loop-k : goal.invariant-loop-k

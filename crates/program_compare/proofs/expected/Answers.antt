@@ -1,6 +1,5 @@
 -- `program_compare::expected`: the painted word before n, and the marker from there on. Assumes nothing.
 use borrow.Author.Tests.{lt-ltb, le-ltb}
-use borrow.Author.Rules.{rules}
 use Rattle.program_compare.proofs.expected.Goals as goal
 
 pub returns-then-k-n : goal.returns-then-k-n

@@ -1,6 +1,5 @@
 -- The count is the definition's.
 use Rattle.program_stored.specs.Stored.{closed_at}
-use borrow.Author.Rules.{rules}
 use Rattle.program_stored.proofs.closed.Goals as goal
 
 pub returns : goal.returns

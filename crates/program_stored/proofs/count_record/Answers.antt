@@ -1,6 +1,5 @@
 -- The counts are the definition's, of the record's own values.
 use mathlib.Core.Path.{◌∙◌}
-use borrow.Author.Rules.{rules}
 use Rattle.program_stored.proofs.count_record.Goals as goal
 
 pub returns : goal.returns

@@ -1,6 +1,5 @@
 -- The counts are the definition's.
 use Rattle.program_stored.specs.Stored.{counted_in}
-use borrow.Author.Rules.{rules}
 use Rattle.program_stored.proofs.counted.Goals as goal
 
 pub returns : goal.returns

@@ -1,12 +1,9 @@
 -- Each turn fills one word more, and after the last all of them are the definition's.
-use mathlib.Core.Path.{◌≡◌}
-use Prim.Native.Nat.{◌-◌, ◌≤◌}
-use lib.ListN.{replicate}
 use native.Mathlib.Omega.{arith}
 use borrow.Author.Rules.{rules}
-use Rattle.laws.specs.Lists.{put, put-none, put-turn, put-end}
+use Rattle.laws.specs.Lists.{put-none, put-turn, put-end}
 use Rattle.footprint.specs.Footprints.{most_texels}
-use Rattle.program_stored.specs.Stored.{word_at, stored_words}
+use Rattle.program_stored.specs.Stored.{stored_words}
 use Rattle.program_stored.proofs.stored_words.Goals as goal
 
 pub loop-k-init : goal.loop-k-init

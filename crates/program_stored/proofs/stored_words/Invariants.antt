@@ -2,11 +2,9 @@
 use mathlib.Core.Path.{◌≡◌}
 use Prim.Native.Nat.{◌-◌, ◌≤◌}
 use lib.ListN.{replicate}
-use native.Mathlib.Omega.{arith}
-use borrow.Author.Rules.{rules}
-use Rattle.laws.specs.Lists.{put, put-none, put-turn, put-end}
+use Rattle.laws.specs.Lists.{put}
 use Rattle.footprint.specs.Footprints.{most_texels}
-use Rattle.program_stored.specs.Stored.{word_at, stored_words}
+use Rattle.program_stored.specs.Stored.{word_at}
 use Rattle.program_stored.proofs.stored_words.Given as goal
 
 abbrev pub invariant-loop-k : goal.invariant-loop-k

@@ -1,7 +1,6 @@
 -- Two bytes multiply within a word.
 use native.Mathlib.Nat.{mul-le-mul, le_of_lt}
 use native.Mathlib.Omega.{arith}
-use borrow.Author.Rules.{rules}
 use Rattle.program_stored.proofs.texels.Goals as goal
 
 pub overflow_mul-result : goal.overflow_mul-result

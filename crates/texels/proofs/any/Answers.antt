@@ -1,7 +1,6 @@
 -- The cases of the list.
 use mathlib.Core.Path.{◌≡◌}
 use native.Mathlib.Omega.{arith}
-use borrow.Author.Rules.{rules}
 use Rattle.texels.proofs.any.Goals as goal
 
 pub returns-else-p-eq2 : goal.returns-else-p-eq2

@@ -1,5 +1,4 @@
 -- The casts keep the numbers.
-use borrow.Author.Rules.{rules}
 use Rattle.texels.proofs.hdr_channel.Goals as goal
 
 pub returns : goal.returns

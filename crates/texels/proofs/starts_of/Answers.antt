@@ -1,5 +1,4 @@
 -- The start of each channel.
-use borrow.Author.Rules.{rules}
 use Rattle.texels.proofs.starts_of.Goals as goal
 
 pub returns : goal.returns

@@ -2,7 +2,6 @@
 use Prim.Native.Nat.{ℕ}
 use native.Mathlib.Omega.{arith}
 use Rattle.texels_hdr.specs.HdrLaws.{hdr-first}
-use borrow.Author.Rules.{rules}
 use Rattle.texels_hdr.proofs.hdr_bytes.Goals as goal
 
 pub hdr_single-requires : goal.hdr_single-requires

@@ -1,9 +1,6 @@
 -- The places before i have the channel.
-use mathlib.Core.Path.{◌≡◌}
-use Prim.Native.Nat.{ℕ, ◌-◌, ◌≤◌, zero-le}
-use Rattle.laws.specs.Lists.{put, put-none, put-turn, put-end}
-use Rattle.blend.specs.Blend.{hdr_channel}
-use Rattle.lanes.specs.Lanes.{eights}
+use Prim.Native.Nat.{zero-le}
+use Rattle.laws.specs.Lists.{put-none, put-turn, put-end}
 use native.Mathlib.Omega.{arith}
 use Rattle.texels_hdr.proofs.hdr_flat.Goals as goal
 

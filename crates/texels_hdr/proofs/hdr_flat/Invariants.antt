@@ -1,10 +1,9 @@
 -- The places before i have the channel.
 use mathlib.Core.Path.{◌≡◌}
-use Prim.Native.Nat.{ℕ, ◌-◌, ◌≤◌, zero-le}
-use Rattle.laws.specs.Lists.{put, put-none, put-turn, put-end}
+use Prim.Native.Nat.{ℕ, ◌-◌, ◌≤◌}
+use Rattle.laws.specs.Lists.{put}
 use Rattle.blend.specs.Blend.{hdr_channel}
 use Rattle.lanes.specs.Lanes.{eights}
-use native.Mathlib.Omega.{arith}
 use Rattle.texels_hdr.proofs.hdr_flat.Given as goal
 
 abbrev pub invariant-loop-i : goal.invariant-loop-i

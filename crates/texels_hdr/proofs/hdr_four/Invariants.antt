@@ -1,14 +1,9 @@
 -- `texels_hdr::hdr_four`: the places before i have the channel of the texels before i. Assumes nothing.
 use mathlib.Core.Path.{◌≡◌}
-use Prim.Native.Nat.{ℕ, ◌+◌, ◌-◌, ◌≤◌, ◌<◌, zero-le}
-use lib.ListN.{get_or}
-use Rattle.laws.specs.Lists.{put, put-none, put-turn, put-end}
-use Rattle.footprint.specs.Footprints.{most_texels}
+use Prim.Native.Nat.{◌-◌, ◌≤◌}
+use Rattle.laws.specs.Lists.{put}
 use Rattle.lanes.specs.Lanes.{eights}
-use Rattle.texels.specs.TurnLaws.{inside, next_fits, next_le, less-left, weight-fits, weight-in}
 use Rattle.texels_hdr.specs.Channels.{hdr_at}
-use Rattle.texels_hdr.specs.HdrLaws.{four-wide, four_is}
-use native.Mathlib.Omega.{arith}
 use Rattle.texels_hdr.proofs.hdr_four.Given as goal
 
 abbrev pub invariant-loop-i : goal.invariant-loop-i

@@ -1,10 +1,6 @@
 -- The places before i have the channel of the texels before i.
-use mathlib.Core.Path.{◌≡◌}
-use Prim.Native.Nat.{ℕ, ◌+◌, ◌-◌, ◌≤◌, zero-le}
-use lib.ListN.{get_or}
-use Rattle.laws.specs.Lists.{put, put-none, put-turn, put-end}
-use Rattle.blend.specs.Blend.{hdr_channel}
-use Rattle.lanes.specs.Lanes.{eights}
+use Prim.Native.Nat.{◌+◌, zero-le}
+use Rattle.laws.specs.Lists.{put-none, put-turn, put-end}
 use native.Mathlib.Omega.{arith}
 use Rattle.texels_hdr.proofs.hdr_one.Goals as goal
 

@@ -1,11 +1,10 @@
 -- The places before i have the channel of the texels before i.
 use mathlib.Core.Path.{◌≡◌}
-use Prim.Native.Nat.{ℕ, ◌+◌, ◌-◌, ◌≤◌, zero-le}
+use Prim.Native.Nat.{ℕ, ◌+◌, ◌-◌, ◌≤◌}
 use lib.ListN.{get_or}
-use Rattle.laws.specs.Lists.{put, put-none, put-turn, put-end}
+use Rattle.laws.specs.Lists.{put}
 use Rattle.blend.specs.Blend.{hdr_channel}
 use Rattle.lanes.specs.Lanes.{eights}
-use native.Mathlib.Omega.{arith}
 use Rattle.texels_hdr.proofs.hdr_one.Given as goal
 
 abbrev pub invariant-loop-i : goal.invariant-loop-i

@@ -1,6 +1,5 @@
 -- `texels_hdr::hdr_single`: where both endpoints are equal no weight changes the channel. Assumes nothing.
 use Rattle.texels_hdr.specs.HdrLaws.{hdr-flat-is}
-use borrow.Author.Rules.{rules}
 use Rattle.texels_hdr.proofs.hdr_single.Goals as goal
 
 pub returns-then-v0-v1 : goal.returns-then-v0-v1

@@ -1,15 +1,11 @@
 -- `texels_hdr::hdr_two`: the places before i have the channel of the texels before i. Assumes nothing.
-use mathlib.Core.Path.{◌≡◌, ◌∙◌}
-use Prim.Native.Nat.{ℕ, ◌+◌, ◌-◌, ◌≤◌, ◌<◌, zero-le}
+use mathlib.Core.Path.{◌≡◌}
+use Prim.Native.Nat.{ℕ, ◌+◌, ◌-◌, ◌≤◌}
 use lib.ListN.{get_or}
-use Rattle.laws.specs.Lists.{put, put-none, put-turn, put-end, put_same}
-use Rattle.footprint.specs.Footprints.{most_texels}
+use Rattle.laws.specs.Lists.{put}
 use Rattle.lanes.specs.Lanes.{eights}
-use Rattle.texels.specs.TurnLaws.{inside, next_fits, next_le, less-left, weight-fits, weight-in}
 use Rattle.blend.specs.Blend.{hdr_channel}
 use Rattle.texels.specs.Kinds.{either_of}
-use Rattle.texels_hdr.specs.HdrLaws.{either-pick, two-wide}
-use native.Mathlib.Omega.{arith}
 use Rattle.texels_hdr.proofs.hdr_two.Given as goal
 
 abbrev pub invariant-loop-i : goal.invariant-loop-i

@@ -1,13 +1,9 @@
 -- `texels_hdr::join_all`: the lanes before 2 * i are those of the texels before i. Assumes nothing.
-use Rattle.texels.specs.PaintLaws.{byte-stores}
-use mathlib.Core.Path.{◌≡◌, refl}
-use Prim.Native.Nat.{◌*◌, ◌-◌, ◌≤◌, ◌<◌, zero-le}
-use Rattle.laws.specs.Lists.{put, put-none}
-use Rattle.footprint.specs.Footprints.{most_texels}
-use Rattle.texels.specs.TurnLaws.{inside, next_fits, next_le, less-left, low_fits, low-in, high_fits, high-in, low-offset, high-offset}
+use mathlib.Core.Path.{◌≡◌}
+use Prim.Native.Nat.{◌*◌, ◌-◌, ◌≤◌}
+use Rattle.laws.specs.Lists.{put}
 use Rattle.lanes.specs.Lanes.{lane_at, eights}
 use Rattle.texels_hdr.specs.Channels.{word_among}
-use native.Mathlib.Omega.{arith}
 use Rattle.texels_hdr.proofs.join_all.Given as goal
 
 abbrev pub invariant-loop-i : goal.invariant-loop-i

@@ -1,6 +1,5 @@
 -- `texels_hdr::paint_hdr`: each channel is that of the definition, and so are the words. Assumes nothing.
 use Rattle.texels_hdr.specs.HdrLaws.{channels-wide, as-hdr}
-use borrow.Author.Rules.{rules}
 use Rattle.texels_hdr.proofs.paint_hdr.Goals as goal
 
 pub hdr_bytes-requires : goal.hdr_bytes-requires

@@ -2,7 +2,6 @@
 use Rattle.endpoints_colours.specs.declared.Endpoints.{Endpoints}
 use Rattle.texels.specs.KindLaws.{any_field}
 use Rattle.texels_ldr.specs.LdrLaws.{numbers_of}
-use borrow.Author.Rules.{rules}
 use Rattle.texels_ldr.proofs.any_of.Goals as goal
 
 pub returns : goal.returns

@@ -2,7 +2,6 @@
 use Rattle.endpoints_colours.specs.declared.Endpoints.{Endpoints}
 use Rattle.texels.specs.KindLaws.{either-field}
 use Rattle.texels_ldr.specs.LdrLaws.{numbers_of}
-use borrow.Author.Rules.{rules}
 use Rattle.texels_ldr.proofs.either_of.Goals as goal
 
 pub returns : goal.returns

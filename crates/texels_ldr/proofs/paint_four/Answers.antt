@@ -1,13 +1,13 @@
 -- `texels_ldr::paint_four`: the lanes before 2 * i are those of the texels before i. Assumes nothing.
 use mathlib.Core.Path.{◌≡◌, refl, ◌∙◌}
-use Prim.Native.Nat.{ℕ, ◌*◌, ◌-◌, ◌≤◌, ◌<◌, zero-le}
+use Prim.Native.Nat.{◌<◌, zero-le}
 use lib.ListN.{get_or}
-use Rattle.laws.specs.Lists.{put, put-none}
+use Rattle.laws.specs.Lists.{put-none}
 use Rattle.endpoints_colours.specs.Colours.{nothing}
 use Rattle.footprint.specs.Footprints.{most_texels}
 use Rattle.texels.specs.TurnLaws.{inside, next_fits, next_le, less-left, low_fits, low-in, high_fits, high-in, low-offset, high-offset}
-use Rattle.lanes.specs.Lanes.{lane_at, eights}
-use Rattle.texels.specs.Kinds.{word_at, any_of}
+use Rattle.lanes.specs.Lanes.{eights}
+use Rattle.texels.specs.Kinds.{any_of}
 use Rattle.texels.specs.KindLaws.{any_entry}
 use Rattle.lanes.specs.LaneLaws.{put-lanes}
 use Rattle.texels_ldr.specs.Plain.{Plain}

@@ -3,7 +3,6 @@ use Prim.Native.Nat.{ℕ}
 use native.Mathlib.Omega.{arith}
 use Rattle.texels.specs.TexelLaws.{as-any}
 use Rattle.texels_ldr.specs.LdrLaws.{as_one, as-planes, as-two, plain_at}
-use borrow.Author.Rules.{rules}
 use Rattle.texels_ldr.proofs.paint_ldr.Goals as goal
 
 pub paint_one-requires : goal.paint_one-requires

@@ -1,11 +1,10 @@
 -- `texels_ldr::paint_one`: the lanes before 2 * i are those of the texels before i. Assumes nothing.
 use mathlib.Core.Path.{◌≡◌, refl}
-use Prim.Native.Nat.{◌*◌, ◌-◌, ◌≤◌, ◌<◌, zero-le}
-use Rattle.laws.specs.Lists.{put, put-none}
+use Prim.Native.Nat.{◌<◌, zero-le}
+use Rattle.laws.specs.Lists.{put-none}
 use Rattle.footprint.specs.Footprints.{most_texels}
 use Rattle.texels.specs.TurnLaws.{inside, next_fits, next_le, less-left, low_fits, low-in, high_fits, high-in, low-offset, high-offset, first-in}
-use Rattle.lanes.specs.Lanes.{lane_at, eights}
-use Rattle.texels_ldr.specs.Plain.{word_one}
+use Rattle.lanes.specs.Lanes.{eights}
 use Rattle.texels_ldr.specs.LdrLaws.{ldr-stores}
 use native.Mathlib.Omega.{arith}
 use Rattle.texels_ldr.proofs.paint_one.Goals as goal

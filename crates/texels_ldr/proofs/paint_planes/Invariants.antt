@@ -1,13 +1,9 @@
 -- `texels_ldr::paint_planes`: the lanes before 2 * i are those of the texels before i. Assumes nothing.
-use mathlib.Core.Path.{◌≡◌, refl}
-use Prim.Native.Nat.{◌*◌, ◌-◌, ◌≤◌, ◌<◌, zero-le}
-use Rattle.laws.specs.Lists.{put, put-none}
-use Rattle.footprint.specs.Footprints.{most_texels}
-use Rattle.texels.specs.TurnLaws.{inside, next_fits, next_le, less-left, low_fits, low-in, high_fits, high-in, low-offset, high-offset}
+use mathlib.Core.Path.{◌≡◌}
+use Prim.Native.Nat.{◌*◌, ◌-◌, ◌≤◌}
+use Rattle.laws.specs.Lists.{put}
 use Rattle.lanes.specs.Lanes.{lane_at, eights}
 use Rattle.texels.specs.Kinds.{word_at}
-use Rattle.texels_ldr.specs.LdrLaws.{ldr-stores}
-use native.Mathlib.Omega.{arith}
 use Rattle.texels_ldr.proofs.paint_planes.Given as goal
 
 abbrev pub invariant-loop-i : goal.invariant-loop-i

@@ -1,13 +1,13 @@
 -- `texels_ldr::paint_two`: the lanes before 2 * i are those of the texels before i. Assumes nothing.
 use mathlib.Core.Path.{◌≡◌, refl}
-use Prim.Native.Nat.{ℕ, ◌*◌, ◌-◌, ◌≤◌, ◌<◌, zero-le}
+use Prim.Native.Nat.{◌<◌, zero-le}
 use lib.ListN.{get_or}
-use Rattle.laws.specs.Lists.{put, put-none}
+use Rattle.laws.specs.Lists.{put-none}
 use Rattle.footprint.specs.Footprints.{most_texels}
 use Rattle.texels.specs.TurnLaws.{inside, next_fits, next_le, less-left, low_fits, low-in, high_fits, high-in, low-offset, high-offset, first-in}
-use Rattle.lanes.specs.Lanes.{lane_at, eights}
+use Rattle.lanes.specs.Lanes.{eights}
 use Rattle.texels.specs.Kinds.{either_of}
-use Rattle.texels_ldr.specs.Plain.{Plain, word_one}
+use Rattle.texels_ldr.specs.Plain.{Plain}
 use Rattle.texels_ldr.specs.LdrLaws.{plain-either, ldr-stores}
 use native.Mathlib.Omega.{arith}
 use Rattle.texels_ldr.proofs.paint_two.Goals as goal

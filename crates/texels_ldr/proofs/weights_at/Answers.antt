@@ -1,6 +1,5 @@
 -- Each channel has the weight of its plane.
 use Prim.Native.Nat.{◌+◌}
-use borrow.Author.Rules.{rules}
 use Rattle.texels_ldr.proofs.weights_at.Goals as goal
 
 pub returns : goal.returns

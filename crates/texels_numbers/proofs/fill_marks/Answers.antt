@@ -1,7 +1,7 @@
 -- `texels_numbers::fill_marks` meets its contract by its loop: before turn i the first i places have the mark. Assumes nothing.
 use lib.ListN.{length}
-use Rattle.laws.specs.Lists.{put, put-none, put-turn, put-end, length-put}
-use Prim.Native.Nat.{ℕ, ◌-◌, ◌≤◌, zero-le}
+use Rattle.laws.specs.Lists.{put-none, put-turn, put-end, length-put}
+use Prim.Native.Nat.{zero-le}
 use mathlib.Core.Path.{◌≡◌, refl, ap, ◌∙◌}
 use native.Mathlib.Omega.{arith}
 use Rattle.texels_numbers.proofs.fill_marks.Goals as goal

@@ -1,9 +1,7 @@
 -- `texels_numbers::fill_marks` meets its contract by its loop: before turn i the first i places have the mark. Assumes nothing.
-use lib.ListN.{length}
-use Rattle.laws.specs.Lists.{put, put-none, put-turn, put-end, length-put}
-use Prim.Native.Nat.{ℕ, ◌-◌, ◌≤◌, zero-le}
-use mathlib.Core.Path.{◌≡◌, refl, ap, ◌∙◌}
-use native.Mathlib.Omega.{arith}
+use Rattle.laws.specs.Lists.{put}
+use Prim.Native.Nat.{ℕ, ◌-◌, ◌≤◌}
+use mathlib.Core.Path.{◌≡◌}
 use Rattle.texels_numbers.proofs.fill_marks.Given as goal
 
 abbrev pub invariant-loop-i : goal.invariant-loop-i

@@ -1,11 +1,8 @@
 -- `texels_numbers::fill_numbers` meets its contract by its loop: before turn i the first i texels have the four numbers. Assumes nothing.
 use Rattle.texels_numbers.specs.Numbers.{fours}
-use Rattle.texels_numbers.specs.NumberLaws.{four-stores}
-use lib.ListN.{length}
-use Rattle.laws.specs.Lists.{put, put-none, put-end, length-put}
-use Prim.Native.Nat.{ℕ, ◌*◌, ◌-◌, ◌≤◌, zero-le}
-use mathlib.Core.Path.{◌≡◌, refl, ap, ◌∙◌}
-use native.Mathlib.Omega.{arith}
+use Rattle.laws.specs.Lists.{put}
+use Prim.Native.Nat.{ℕ, ◌*◌, ◌-◌, ◌≤◌}
+use mathlib.Core.Path.{◌≡◌}
 use Rattle.texels_numbers.proofs.fill_numbers.Given as goal
 
 abbrev pub invariant-loop-i : goal.invariant-loop-i

@@ -1,5 +1,4 @@
 -- `texels_numbers::fill_texels` meets its contract: two loops. Assumes nothing.
-use borrow.Author.Rules.{rules}
 use Rattle.texels_numbers.proofs.fill_texels.Goals as goal
 
 pub returns : goal.returns

@@ -1,7 +1,6 @@
 -- `texels_numbers::float_bits` meets its contract by its two ways out. Assumes nothing.
 use native.Mathlib.Omega.{arith}
 use Rattle.channels.specs.ChannelLaws.{half-no-nan, ret-nan-bits, ret-float-bits}
-use borrow.Author.Rules.{rules}
 use Rattle.texels_numbers.proofs.float_bits.Goals as goal
 
 pub returns-then-n-gt31744 : goal.returns-then-n-gt31744

@@ -1,5 +1,4 @@
 -- `texels_numbers::four_of` meets its contract: a number for each channel. Assumes nothing.
-use borrow.Author.Rules.{rules}
 use Rattle.texels_numbers.proofs.four_of.Goals as goal
 
 pub returns : goal.returns

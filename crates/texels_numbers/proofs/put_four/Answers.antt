@@ -2,7 +2,6 @@
 use Prim.Native.Nat.{◌+◌, ◌*◌}
 use native.Mathlib.Omega.{arith}
 use lib.ListN.{set, length-set}
-use borrow.Author.Rules.{rules}
 use Rattle.texels_numbers.proofs.put_four.Goals as goal
 
 pub bounds-out-i-2 : goal.bounds-out-i-2

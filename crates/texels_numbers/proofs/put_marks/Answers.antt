@@ -1,10 +1,8 @@
 -- `texels_numbers::put_marks` meets its contract by its loop: before turn i the first i places have their marks. Assumes nothing.
-use borrow.Author.Rules.{rules}
 use Rattle.channels.specs.Channels.{marks_of}
-use Rattle.texels_numbers.specs.Numbers.{marks_from}
 use lib.ListN.{length}
-use Rattle.laws.specs.Lists.{put, put-none, put-turn, put-end, length-put}
-use Prim.Native.Nat.{◌-◌, ◌≤◌, zero-le}
+use Rattle.laws.specs.Lists.{put-none, put-turn, put-end, length-put}
+use Prim.Native.Nat.{zero-le}
 use mathlib.Core.Path.{◌≡◌, ap, ◌∙◌}
 use native.Mathlib.Omega.{arith}
 use Rattle.texels_numbers.proofs.put_marks.Goals as goal

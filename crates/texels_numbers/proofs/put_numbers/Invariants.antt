@@ -1,12 +1,8 @@
 -- `texels_numbers::put_numbers` meets its contract by its loop: before turn i the first i texels have their numbers. Assumes nothing.
-use borrow.Author.Rules.{rules}
 use Rattle.texels_numbers.specs.Numbers.{numbers_from}
-use Rattle.texels_numbers.specs.NumberLaws.{four-told, four-stores}
-use lib.ListN.{length}
-use Rattle.laws.specs.Lists.{put, put-none, put-end, length-put}
-use Prim.Native.Nat.{◌*◌, ◌-◌, ◌≤◌, zero-le}
-use mathlib.Core.Path.{◌≡◌, ap, ◌∙◌}
-use native.Mathlib.Omega.{arith}
+use Rattle.laws.specs.Lists.{put}
+use Prim.Native.Nat.{◌*◌, ◌-◌, ◌≤◌}
+use mathlib.Core.Path.{◌≡◌}
 use Rattle.texels_numbers.proofs.put_numbers.Given as goal
 
 abbrev pub invariant-loop-i : goal.invariant-loop-i

@@ -3,7 +3,6 @@ use Prim.Native.Nat.{ℕ}
 use mathlib.Core.Path.{◌∙◌}
 use native.Mathlib.Omega.{arith}
 use Rattle.texels.specs.TexelLaws.{as-any}
-use borrow.Author.Rules.{rules}
 use Rattle.texels_paint.proofs.applicate_color.Goals as goal
 
 pub paint_ldr-requires : goal.paint_ldr-requires

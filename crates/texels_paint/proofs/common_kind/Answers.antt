@@ -1,11 +1,10 @@
 -- The partitions before p are of the first one's kind.
 use mathlib.Core.Path.{◌≡◌, sym}
 use lib.ListN.{get_or}
-use borrow.Author.Rules.{rules}
 use Rattle.endpoints_colours.specs.Colours.{nothing}
-use Prim.Native.Nat.{ℕ, ◌-◌, ◌≤◌, ◌<◌}
+use Prim.Native.Nat.{ℕ, ◌<◌}
 use borrow.Author.Count.{below_more}
-use Rattle.texels.specs.Kinds.{kind_of, AllOf}
+use Rattle.texels.specs.Kinds.{kind_of}
 use native.Mathlib.Omega.{arith}
 use Rattle.texels_paint.proofs.common_kind.Goals as goal
 

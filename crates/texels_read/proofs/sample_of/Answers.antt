@@ -1,7 +1,6 @@
 -- `texels_read::sample_of` meets its contract: the top bit tells a half. Assumes nothing.
 use native.Mathlib.Omega.{arith}
 use Rattle.texels_read.specs.ReadLaws.{lane_byte, lane-half}
-use borrow.Author.Rules.{rules}
 use Rattle.texels_read.proofs.sample_of.Goals as goal
 
 pub returns-then-x-lt32768 : goal.returns-then-x-lt32768

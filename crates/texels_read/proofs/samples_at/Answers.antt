@@ -1,6 +1,5 @@
 -- `texels_read::samples_at` meets its contract: four lanes. Assumes nothing.
 use Rattle.texels_read.specs.ReadLaws.{texel-is}
-use borrow.Author.Rules.{rules}
 use Rattle.texels_read.proofs.samples_at.Goals as goal
 
 pub returns : goal.returns

@@ -1,7 +1,6 @@
 -- `texels_samples::pair_of` meets its contract, channel by channel. Assumes nothing.
 use mathlib.Core.Path.{◌≡◌}
 use native.Mathlib.Omega.{arith}
-use borrow.Author.Rules.{rules}
 use Rattle.texels_samples.proofs.pair_of.Goals as goal
 
 pub returns-then-k-eq0 : goal.returns-then-k-eq0

@@ -1,5 +1,4 @@
 -- `texels_samples::pairs_of` meets its contract: four calls. Assumes nothing.
-use borrow.Author.Rules.{rules}
 use Rattle.texels_samples.proofs.pairs_of.Goals as goal
 
 pub returns : goal.returns

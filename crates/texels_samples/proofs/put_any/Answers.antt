@@ -1,11 +1,9 @@
 -- `texels_samples::put_any`: the lanes before i have the samples of the texels before i. Assumes nothing.
-use mathlib.Core.Path.{◌≡◌}
-use Prim.Native.Nat.{◌+◌, ◌-◌, ◌≤◌, ◌<◌, zero-le}
+use Prim.Native.Nat.{◌+◌, ◌<◌, zero-le}
 use lib.ListN.{get_or}
-use Rattle.laws.specs.Lists.{put_at, put_at-none, put_at-turn, put_at-end}
+use Rattle.laws.specs.Lists.{put_at-none, put_at-turn, put_at-end}
 use Rattle.footprint.specs.Footprints.{most_texels}
 use Rattle.lanes.specs.Lanes.{eights}
-use Rattle.texels_samples.specs.Planes.{any_at}
 use Rattle.texels.specs.TurnLaws.{inside, next_fits, next_le, less-left, weight-fits, weight-in}
 use Rattle.texels_samples.specs.PlaneLaws.{any-limit, any-is, lane-fits, lane-offset, lane_in}
 use native.Mathlib.Omega.{arith}

@@ -2,7 +2,6 @@
 use Prim.Native.Nat.{ℕ}
 use native.Mathlib.Omega.{arith}
 use Rattle.texels_samples.specs.PlaneLaws.{one-any}
-use borrow.Author.Rules.{rules}
 use Rattle.texels_samples.proofs.put_channel.Goals as goal
 
 pub put_one-requires : goal.put_one-requires

@@ -1,9 +1,6 @@
 -- `texels_samples::put_one`: the lanes before i have the samples of the texels before i. Assumes nothing.
-use mathlib.Core.Path.{◌≡◌}
-use Prim.Native.Nat.{◌+◌, ◌-◌, ◌≤◌, zero-le}
-use Rattle.laws.specs.Lists.{put_at, put_at-none, put_at-turn, put_at-end}
-use Rattle.lanes.specs.Lanes.{eights}
-use Rattle.texels_samples.specs.Planes.{one_at}
+use Prim.Native.Nat.{◌+◌, zero-le}
+use Rattle.laws.specs.Lists.{put_at-none, put_at-turn, put_at-end}
 use native.Mathlib.Omega.{arith}
 use Rattle.texels_samples.proofs.put_one.Goals as goal
 

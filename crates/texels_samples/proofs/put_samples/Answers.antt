@@ -3,7 +3,6 @@ use mathlib.Core.Path.{ap}
 use native.Mathlib.Omega.{arith}
 use Rattle.texels.specs.declared.Starts.{Starts}
 use Rattle.texels_samples.specs.PlaneLaws.{bounded, channel-put, all-put}
-use borrow.Author.Rules.{rules}
 use Rattle.texels_samples.proofs.put_samples.Goals as goal
 
 pub put_channel-requires : goal.put_channel-requires

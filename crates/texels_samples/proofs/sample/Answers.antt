@@ -1,7 +1,6 @@
 -- `texels_samples::sample` meets its contract: a byte, or a half with the top bit. Assumes nothing.
 use native.Mathlib.Omega.{arith}
 use Rattle.texels_samples.specs.PlaneLaws.{ldr-limit, hdr-limit, ldr-is, hdr-is}
-use borrow.Author.Rules.{rules}
 use Rattle.texels_samples.proofs.sample.Goals as goal
 
 pub select_color_byte-requires : goal.select_color_byte-requires

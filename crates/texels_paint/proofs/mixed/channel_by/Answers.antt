@@ -3,7 +3,6 @@ use Prim.Native.Nat.{◌<◌}
 use Rattle.texels.specs.Texels.{channel_by}
 use Rattle.texels.specs.PaintLaws.{limit-of, channel-of}
 use native.Mathlib.Omega.{arith}
-use borrow.Author.Rules.{rules}
 use Rattle.texels_paint.proofs.mixed.channel_by.Goals as goal
 
 pub select_color_byte-requires : goal.select_color_byte-requires

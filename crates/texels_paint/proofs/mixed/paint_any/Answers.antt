@@ -1,11 +1,8 @@
 -- The lanes before 2 * i are those of the texels before i.
 use mathlib.Core.Path.{◌≡◌}
-use Prim.Native.Nat.{ℕ, ◌*◌, ◌-◌, ◌≤◌, ◌<◌, zero-le}
-use lib.ListN.{get_or}
-use Rattle.laws.specs.Lists.{put, put-none}
-use Rattle.endpoints_colours.specs.Colours.{nothing}
-use Rattle.lanes.specs.Lanes.{lane_at, eights}
-use Rattle.texels.specs.Kinds.{word_at}
+use Prim.Native.Nat.{◌<◌, zero-le}
+use Rattle.laws.specs.Lists.{put-none}
+use Rattle.lanes.specs.Lanes.{eights}
 use Rattle.lanes.specs.LaneLaws.{word-stores}
 use native.Mathlib.Omega.{arith}
 use Rattle.texels_paint.proofs.mixed.paint_any.Goals as goal

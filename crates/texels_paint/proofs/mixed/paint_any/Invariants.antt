@@ -1,13 +1,11 @@
 -- The lanes before 2 * i are those of the texels before i.
 use mathlib.Core.Path.{◌≡◌}
-use Prim.Native.Nat.{ℕ, ◌*◌, ◌-◌, ◌≤◌, ◌<◌, zero-le}
+use Prim.Native.Nat.{ℕ, ◌*◌, ◌-◌, ◌≤◌}
 use lib.ListN.{get_or}
-use Rattle.laws.specs.Lists.{put, put-none}
+use Rattle.laws.specs.Lists.{put}
 use Rattle.endpoints_colours.specs.Colours.{nothing}
 use Rattle.lanes.specs.Lanes.{lane_at, eights}
 use Rattle.texels.specs.Kinds.{word_at}
-use Rattle.lanes.specs.LaneLaws.{word-stores}
-use native.Mathlib.Omega.{arith}
 use Rattle.texels_paint.proofs.mixed.paint_any.Given as goal
 
 abbrev pub invariant-loop-i : goal.invariant-loop-i

@@ -1,7 +1,6 @@
 -- A word of four channels.
 use mathlib.Core.Path.{◌∙◌}
 use Rattle.texels.specs.Texels.{word_by}
-use borrow.Author.Rules.{rules}
 use Rattle.texels_paint.proofs.mixed.texel.Goals as goal
 
 pub returns : goal.returns

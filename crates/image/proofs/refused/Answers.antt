@@ -1,0 +1,8 @@
+-- `image::refused`: the record is the definition's. Assumes nothing.
+use Rattle.image.specs.Image.{refused_at}
+use mathlib.Core.Path.{refl}
+use Rattle.image.proofs.refused.Goals as goal
+
+pub returns : goal.returns
+unfolding refused_at
+returns c = refl
