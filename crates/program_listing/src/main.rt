@@ -8,7 +8,14 @@ ghost use Rattle.program_text.specs.Text.{Placed};
 ghost use Rattle.program_listing.specs.Listing.{answer_in, words_in, record_line};
 
 use footprint::{Footprint, TEXELS};
-use libc::{STDERR_FILENO, STDIN_FILENO, STDOUT_FILENO};
+use std::io::Read;
+
+// The numbers of the standard streams.
+const STDIN: i32 = 0;
+
+const STDOUT: i32 = 1;
+
+const STDERR: i32 = 2;
 
 fn usize_of(x: u8) -> usize
     ensures { result ≡ x }
@@ -45,35 +52,35 @@ fn lay_out_record(line: &mut [u8], number: u64, bytes: &[u8]) -> usize
 
 // Says on the error output that the input cannot be read, where it ended for that: a further read
 // tells.
-fn report_end() {
+fn report_end(rt: &HostRuntime) {
     let mut probe = [0u8; 1];
-    if libc::read(STDIN_FILENO, &mut probe) < 0 {
-        io::write_all(STDERR_FILENO, b"listing: cannot read the records\n");
+    if rt.stdin().read(&mut probe).is_err() {
+        io::write_all(STDERR, b"listing: cannot read the records\n");
     }
 }
 
 // Writes a line, and says on the error output where that fails.
 fn write_line(line: &[u8]) -> bool {
-    if io::write_all(STDOUT_FILENO, line) {
+    if io::write_all(STDOUT, line) {
         return true;
     }
-    io::write_all(STDERR_FILENO, b"listing: cannot write the lines\n");
+    io::write_all(STDERR, b"listing: cannot write the lines\n");
     false
 }
 
 // Lists the record of a number, and says whether another may follow it.
-fn list(number: u64) -> bool {
+fn list(rt: &HostRuntime, number: u64) -> bool {
     let mut record = [0u8; 18];
-    let got = io::read_full(STDIN_FILENO, &mut record);
+    let got = io::read_full(STDIN, &mut record);
     if got == 0 {
-        report_end();
+        report_end(rt);
         return false;
     }
     let mut line = [0u8; 126];
     let end = lay_out_record(&mut line, number, &record[..got]);
     let is_written = write_line(&line[..end]);
     if got < 18 {
-        report_end();
+        report_end(rt);
         return false;
     }
     is_written
@@ -81,9 +88,9 @@ fn list(number: u64) -> bool {
 
 // A proved loop has to end, and nothing says that the input does: it would stop at a number that no
 // run reaches.
-fn main() {
+fn main(rt: HostRuntime) {
     let mut number = 0;
-    while number < u64::MAX && list(number) {
+    while number < u64::MAX && list(&rt, number) {
         number += 1;
     }
 }

@@ -8,9 +8,11 @@ ghost use Rattle.program_stored.specs.Stored.{answer_in};
 ghost use Rattle.program_replay.specs.Replay.{footprint_in, replayed_in};
 
 use footprint::{Footprint, TEXELS};
-use libc::STDIN_FILENO;
 use program_compare::MARKER;
 use program_stored::Tally;
+
+// The number of the standard input.
+const STDIN: i32 = 0;
 
 fn usize_of(x: u8) -> usize
     ensures { (result ≡ x) × (result < 256) }
@@ -46,7 +48,7 @@ fn read_words(stored: &mut [u8], n: usize) -> Record
         return Record::Malformed;
     }
     let size = 4 * n;
-    if io::read_full(STDIN_FILENO, &mut stored[..size]) < size {
+    if io::read_full(STDIN, &mut stored[..size]) < size {
         return Record::Malformed;
     }
     Record::Whole
@@ -55,7 +57,7 @@ fn read_words(stored: &mut [u8], n: usize) -> Record
 fn read_record(head: &mut [u8; 19], stored: &mut [u8]) -> Record
     requires { 576 ≤ length stored.old }
 {
-    let got = io::read_full(STDIN_FILENO, head);
+    let got = io::read_full(STDIN, head);
     if got == 0 {
         return Record::Missing;
     }

@@ -1,6 +1,6 @@
 -- An image painted in steps against the image painted whole.
 -- Assumes nothing.
-use Rattle.std.specs.Prelude.{ℕ, ◌≤◌}
+use Rattle.std.specs.Prelude.{◌≤◌}
 use Rattle.image.specs.declared.Cursor.{Cursor}
 use Rattle.program_compare.specs.declared.Came.{Came}
 use Rattle.program_strides.specs.declared.Walk.{Walk}

@@ -1,0 +1,8 @@
+-- `program_replay::read_words` is safe and ends.
+use mathlib.Core.Path.{sym}
+use lib.Seq.{length-take-le}
+use borrow.Author.Rules.{rules}
+use Rattle.program_replay.proofs.read_words.Goals as goal
+
+pub slice_bounds-read_full-end-2 : goal.slice_bounds-read_full-end-2
+slice_bounds-read_full-end-2 c = sym (length-take-le _ _ (search rules))

@@ -1,0 +1,10 @@
+-- `program_strides::walk_through` is safe and ends: the turns that are left fall.
+use mathlib.Core.Path.{◌≡◌}
+use lib.ListN.{length}
+use Rattle.program_strides.proofs.walks.walk_through.Given as goal
+
+abbrev pub invariant-loop-left : goal.invariant-loop-left
+invariant-loop-left l = length l.out ≡ length l.initial.out
+
+abbrev pub decreases-loop-left : goal.decreases-loop-left
+decreases-loop-left l = l.left
