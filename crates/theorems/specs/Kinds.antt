@@ -26,7 +26,7 @@ pub record OneColour (s : List ℕ) (foot : Footprint) (out : List ℕ) (a w : �
   pub answer : answer_of s foot (length out) ≡ a
   pub words : painted_of s foot out ≡ put (λ (t : ℕ). w) 0 (texels_of foot) out
 
--- byte 0 is 0x_fc and bit 8 is 1
+-- byte 0 is 0xFC and bit 8 is 1
 abbrev pub Void : ℕ → Type 0
 Void v = bits_at v 0 9 ≡ 0x1fc
 
