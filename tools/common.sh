@@ -29,6 +29,12 @@ need() { # COMMAND SOURCE
     fi
 }
 
+# Proves and builds a program as crates/NAME/out/NAME, where that is not done yet. rt has no command that builds a program and does not run
+# it, so it is run on an empty input. What rt says goes to the error output.
+build_program() { # NAME
+    (cd "crates/$1" && rt run </dev/null >/dev/null)
+}
+
 # Says that the next part begins, by its number and its name. A script sets parts to how many it has.
 part=0
 parts=0

@@ -61,14 +61,18 @@ fn own_folder() -> Result<PathBuf, String> {
         .map_err(|error| format!("the repository's root was not found: {error}"))?;
     let folder = root.join("target/native");
     let archive = folder.join("libastc.a");
-    for part in ["crates", "crates.txt", "tools/archive"] {
+    for part in ["crates.txt", "tools/archive"] {
         watch(&root.join(part));
+    }
+    let sources = sources(&root);
+    for source in &sources {
+        watch(source);
     }
     watch(&archive);
     if has_kit() {
         make(&root)?;
     } else if archive.is_file() {
-        warn_if_old(&root, &archive);
+        warn_if_old(&root, &sources, &archive);
     }
     if archive.is_file() {
         return Ok(folder);
@@ -86,12 +90,31 @@ fn has_kit() -> bool {
     env::split_paths(&path).any(|folder| folder.join("rt").is_file())
 }
 
+/// What stands in the folders of the crates, but for what rt made there, in out.
+fn sources(root: &Path) -> Vec<PathBuf> {
+    let crates = paths_in(&root.join("crates"));
+    crates
+        .iter()
+        .flat_map(|folder| paths_in(folder))
+        .filter(|path| !path.ends_with("out"))
+        .collect()
+}
+
+/// What stands in a folder.
+fn paths_in(folder: &Path) -> Vec<PathBuf> {
+    let entries = fs::read_dir(folder).into_iter().flatten().flatten();
+    entries.map(|entry| entry.path()).collect()
+}
+
 /// Says where an archive that cannot be made anew is older than what it is made of.
-fn warn_if_old(root: &Path, archive: &Path) {
+fn warn_if_old(root: &Path, sources: &[PathBuf], archive: &Path) {
     let Ok(made) = fs::metadata(archive).and_then(|file| file.modified()) else {
         return;
     };
-    if newest(&root.join("crates")).is_some_and(|changed| changed > made) {
+    if sources
+        .iter()
+        .any(|source| newest(source).is_some_and(|changed| changed > made))
+    {
         println!(
             "cargo:warning=target/native/libastc.a is older than the newest file of crates/, and the Rattle kit (rt), which makes it \
              anew, is not installed"
@@ -101,15 +124,15 @@ fn warn_if_old(root: &Path, archive: &Path) {
     }
 }
 
-/// When the newest file of a folder was changed.
-fn newest(folder: &Path) -> Option<SystemTime> {
-    let entries = fs::read_dir(folder).ok()?.flatten();
-    entries
-        .filter_map(|entry| match entry.file_type().ok()?.is_dir() {
-            true => newest(&entry.path()),
-            false => entry.metadata().ok()?.modified().ok(),
-        })
-        .max()
+/// When a file, or the newest file of a folder, was changed.
+fn newest(path: &Path) -> Option<SystemTime> {
+    if path.is_dir() {
+        return paths_in(path)
+            .iter()
+            .filter_map(|inner| newest(inner))
+            .max();
+    }
+    fs::metadata(path).ok()?.modified().ok()
 }
 
 /// Runs tools/archive, which leaves an archive that is up to date.

@@ -4,6 +4,9 @@ use Rattle.std.specs.Prelude.{◌≡◌, Bool, List, ℕ, ◌+◌, ◌*◌, ◌/
 use Rattle.std.proofs.Common.{sym, ◌∙◌}
 use Rattle.laws.specs.Lists.{put, put_at}
 use Rattle.answers.specs.Answers.{is_bad}
+use Rattle.options.specs.Base.{base}
+use Rattle.options.specs.declared.Options.{Options}
+use Rattle.options.specs.declared.Reading.{Reading}
 use Rattle.footprint.specs.Footprints.{texels_of, listed}
 use Rattle.footprint.specs.declared.Footprint.{Footprint}
 use Rattle.lanes.specs.Lanes.{lane_at, joined_at, eights as eights_of}
@@ -24,6 +27,7 @@ use Rattle.params_rules.specs.Rules.{verdict}
 use Rattle.params_room.specs.Room.{end_range}
 use Rattle.params_map.specs.Map.{no_map, map_of}
 use Rattle.params_map.specs.declared.BlockMap.{BlockMap}
+use Rattle.params_extent.specs.Extent.{extent_in, void_verdict}
 use Rattle.params.specs.Params.{params_of}
 use Rattle.params.specs.declared.Params.{Params}
 use Rattle.endpoints_unquantise.specs.Unquantised.{endpoint_values}
@@ -63,6 +67,10 @@ use Rattle.theorems.specs.Tight.{Tight, TightBoth, TightBlock, one, both, block}
 -- ---- answers
 pub is-bad : (a : ℕ) → Tight Bool (λ r. r ≡ is_bad a)
 is-bad a = one Bool (is_bad a)
+
+-- ---- options
+pub no-options : Tight Options (λ r. r ≡ base)
+no-options = one Options base
 
 -- ---- footprint
 pub is-listed : (f : Footprint) → Tight Bool (λ r. r ≡ listed f)
@@ -184,6 +192,9 @@ decode-block-map b f = one BlockMap (map_of (value_of b) f)
 
 pub decode-block-params : (b : Block) (f : Footprint) → Tight Params (λ r. r ≡ params_of (value_of b) f)
 decode-block-params b f = one Params (params_of (value_of b) f)
+
+pub void-verdict : (reading : Reading) (b : Block) → Tight ℕ (λ r. r ≡ void_verdict reading (extent_in (value_of b)))
+void-verdict reading b = one ℕ (void_verdict reading (extent_in (value_of b)))
 
 -- ---- endpoints
 pub endpoints-unquantize : (q : ℕ) (seq : List ℕ) → Tight (List ℕ) (λ out. out ≡ endpoint_values q seq)
