@@ -29,10 +29,31 @@ need() { # COMMAND SOURCE
     fi
 }
 
+# Prints a sum for each file of the crates; the folders out/ have what rt made.
+sums_of_sources() {
+    find crates.txt crates -path 'crates/*/out' -prune -o -type f -exec sha256sum {} + | sort
+}
+
+# The sum of the sources with the libraries and programs that rt ci made of them. It leaves these in crates/NAME/out without a stamp, so that
+# rt would prove them once more for any other command.
+sum_of_gate() {
+    { rt version && sums_of_sources && find crates/*/out -maxdepth 3 -type f \( -name format -o -perm -u+x \) -exec sha256sum {} + | sort; } | sha256sum
+}
+
+# Notes that the gate has proved what stands here; where rt has put back what earlier checks kept, it stays with rt to prove it.
+note_gate() {
+    if compgen -G 'crates/*/out/rlib/stamp' >/dev/null; then rm -f target/ci.sum; else sum_of_gate >target/ci.sum; fi
+}
+
+# Whether what stands here is what the gate has proved and made.
+is_of_gate() {
+    [ -f target/ci.sum ] && [ "$(sum_of_gate)" = "$(cat target/ci.sum)" ]
+}
+
 # Proves and builds a program as crates/NAME/out/NAME, where that is not done yet. rt has no command that builds a program and does not run
 # it, so it is run on an empty input. What rt says goes to the error output.
 build_program() { # NAME
-    (cd "crates/$1" && rt run </dev/null >/dev/null)
+    is_of_gate || (cd "crates/$1" && rt run </dev/null >/dev/null)
 }
 
 # Says that the next part begins, by its number and its name. A script sets parts to how many it has.
