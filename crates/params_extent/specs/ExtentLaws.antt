@@ -10,8 +10,13 @@ use Rattle.bits.specs.Bits.{bits_at}
 use Rattle.bits.specs.BitLaws.{locality, join}
 use Rattle.options.specs.declared.Reading.{Reading}
 use Rattle.options.specs.declared.Reading.TheVariants.{Crate, Standard}
-use Rattle.params_extent.specs.Extent.{extent_in}
-use Rattle.params_extent.specs.Extent.{is_everywhere, keeps_rules, void_verdict}
+use Rattle.params_low.specs.Low.{is_void, extent_of}
+use Rattle.params_extent.specs.Extent.{extent_in, is_everywhere, keeps_rules, void_verdict}
+
+-- ---- the extent of a void block is the one that the parameters have of it
+pub extent-is : (v : ℕ) → is_void v ≡ true → extent_of v ≡ extent_in v
+unfolding extent_of
+extent-is v e = rw e
 
 -- ---- the rules, of the bits of the block v
 pub rules-are : (v : ℕ)
