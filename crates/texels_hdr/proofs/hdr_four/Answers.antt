@@ -1,9 +1,7 @@
 -- `texels_hdr::hdr_four`: the places before i have the channel of the texels before i. Assumes nothing.
-use Prim.Native.Nat.{◌+◌, ◌<◌, zero-le}
+use Prim.Native.Nat.{◌+◌, zero-le}
 use lib.ListN.{get_or}
 use Rattle.laws.specs.Lists.{put-none, put-turn, put-end}
-use Rattle.footprint.specs.Footprints.{most_texels}
-use Rattle.lanes.specs.Lanes.{eights}
 use Rattle.texels.specs.TurnLaws.{inside, next_fits, next_le, less-left, weight-fits, weight-in}
 use Rattle.texels_hdr.specs.HdrLaws.{four-wide, four_is}
 use native.Mathlib.Omega.{arith}
@@ -14,9 +12,7 @@ loop-i-init c = (zero-le, put-none _ 0 _)
 
 pub bounds-partitions-i : goal.bounds-partitions-i
 bounds-partitions-i c =
-    let turn : c.loop-i.i < eights c.args.n = omega arith in
-    let within : c.loop-i.i < most_texels = inside c.args.n (turn) c.requires.n_le_most_texels.0 in
-    within
+    inside c.args.n (omega arith) c.requires.n_le_most_texels.0
 
 pub any-requires : goal.any-requires
 any-requires c =
@@ -28,15 +24,11 @@ any-requires-in-loop-i c =
 
 pub overflow_add-x : goal.overflow_add-x
 overflow_add-x c =
-    let turn : c.loop-i.i < eights c.args.n = omega arith in
-    let within : c.loop-i.i < most_texels = inside c.args.n (turn) c.requires.n_le_most_texels.0 in
-    weight-fits within c.requires.n_le_most_texels.1
+    weight-fits (inside c.args.n (omega arith) c.requires.n_le_most_texels.0) c.requires.n_le_most_texels.1
 
 pub bounds-w-x : goal.bounds-w-x
 bounds-w-x c =
-    let turn : c.loop-i.i < eights c.args.n = omega arith in
-    let within : c.loop-i.i < most_texels = inside c.args.n (turn) c.requires.n_le_most_texels.0 in
-    weight-in within c.requires.n_le_most_texels.1
+    weight-in (inside c.args.n (omega arith) c.requires.n_le_most_texels.0) c.requires.n_le_most_texels.1
 
 pub hdr_channel-requires : goal.hdr_channel-requires
 hdr_channel-requires c =
@@ -46,25 +38,19 @@ hdr_channel-requires c =
 
 pub bounds-out-i : goal.bounds-out-i
 bounds-out-i c =
-    let turn : c.loop-i.i < eights c.args.n = omega arith in
-    let within : c.loop-i.i < most_texels = inside c.args.n (turn) c.requires.n_le_most_texels.0 in
-    within
+    inside c.args.n (omega arith) c.requires.n_le_most_texels.0
 
 pub overflow_add-i : goal.overflow_add-i
 overflow_add-i c =
-    let turn : c.loop-i.i < eights c.args.n = omega arith in
-    let within : c.loop-i.i < most_texels = inside c.args.n (turn) c.requires.n_le_most_texels.0 in
-    next_fits within
+    next_fits (inside c.args.n (omega arith) c.requires.n_le_most_texels.0)
 
 pub loop-i-smaller : goal.loop-i-smaller
 loop-i-smaller c =
-    let turn : c.loop-i.i < eights c.args.n = omega arith in
-    less-left turn
+    less-left (omega arith)
 
 pub loop-i-preserved : goal.loop-i-preserved
 loop-i-preserved c =
-    let turn : c.loop-i.i < eights c.args.n = omega arith in
-    (next_le turn, put-turn _ _ _ _ _ _ c.loop-i.invariant.1 zero-le (four_is c.args.a c.args.b (get_or c.args.partitions.now c.loop-i.i 0) (get_or c.args.w.now (c.args.x + c.loop-i.i) 0) c.any.ensures c.any-in-loop-i.ensures c.hdr_channel.ensures))
+    (next_le (omega arith), put-turn _ _ _ _ _ _ c.loop-i.invariant.1 zero-le (four_is c.args.a c.args.b (get_or c.args.partitions.now c.loop-i.i 0) (get_or c.args.w.now (c.args.x + c.loop-i.i) 0) c.any.ensures c.any-in-loop-i.ensures c.hdr_channel.ensures))
 
 pub returns : goal.returns
 returns c = put-end _ _ _ _ _ _ c.loop-i.invariant.1 c.loop-i.invariant.0 (omega arith)

@@ -1,9 +1,8 @@
 -- `texels_hdr::join_all`: the lanes before 2 * i are those of the texels before i. Assumes nothing.
 use Rattle.texels.specs.PaintLaws.{byte-stores}
 use mathlib.Core.Path.{◌≡◌, refl}
-use Prim.Native.Nat.{◌<◌, zero-le}
+use Prim.Native.Nat.{zero-le}
 use Rattle.laws.specs.Lists.{put-none}
-use Rattle.footprint.specs.Footprints.{most_texels}
 use Rattle.texels.specs.TurnLaws.{inside, next_fits, next_le, less-left, low_fits, low-in, high_fits, high-in, low-offset, high-offset}
 use Rattle.lanes.specs.Lanes.{eights}
 use native.Mathlib.Omega.{arith}
@@ -14,87 +13,61 @@ loop-i-init c = (zero-le, put-none _ 0 _)
 
 pub bounds-b-i : goal.bounds-b-i
 bounds-b-i c =
-    let turn : c.loop-i.i < eights c.args.n = omega arith in
-    let within : c.loop-i.i < most_texels = inside c.args.n (turn) c.requires in
-    within
+    inside c.args.n (omega arith) c.requires
 
 pub bounds-g-i : goal.bounds-g-i
 bounds-g-i c =
-    let turn : c.loop-i.i < eights c.args.n = omega arith in
-    let within : c.loop-i.i < most_texels = inside c.args.n (turn) c.requires in
-    within
+    inside c.args.n (omega arith) c.requires
 
 pub overflow_mul-out : goal.overflow_mul-out
 overflow_mul-out c =
-    let turn : c.loop-i.i < eights c.args.n = omega arith in
-    let within : c.loop-i.i < most_texels = inside c.args.n (turn) c.requires in
-    low_fits within
+    low_fits (inside c.args.n (omega arith) c.requires)
 
 pub offset_bounds-out-i : goal.offset_bounds-out-i
 offset_bounds-out-i c =
-    let turn : c.loop-i.i < eights c.args.n = omega arith in
-    let within : c.loop-i.i < most_texels = inside c.args.n (turn) c.requires in
-    low-offset within
+    low-offset (inside c.args.n (omega arith) c.requires)
 
 pub bounds-out-i : goal.bounds-out-i
 bounds-out-i c =
-    let turn : c.loop-i.i < eights c.args.n = omega arith in
-    let within : c.loop-i.i < most_texels = inside c.args.n (turn) c.requires in
-    low-in within
+    low-in (inside c.args.n (omega arith) c.requires)
 
 pub bounds-r-i : goal.bounds-r-i
 bounds-r-i c =
-    let turn : c.loop-i.i < eights c.args.n = omega arith in
-    let within : c.loop-i.i < most_texels = inside c.args.n (turn) c.requires in
-    within
+    inside c.args.n (omega arith) c.requires
 
 pub bounds-a-i : goal.bounds-a-i
 bounds-a-i c =
-    let turn : c.loop-i.i < eights c.args.n = omega arith in
-    let within : c.loop-i.i < most_texels = inside c.args.n (turn) c.requires in
-    within
+    inside c.args.n (omega arith) c.requires
 
 pub overflow_mul-out-in-loop-i : goal.overflow_mul-out-in-loop-i
 overflow_mul-out-in-loop-i c =
-    let turn : c.loop-i.i < eights c.args.n = omega arith in
-    let within : c.loop-i.i < most_texels = inside c.args.n (turn) c.requires in
-    low_fits within
+    low_fits (inside c.args.n (omega arith) c.requires)
 
 pub overflow_add-out : goal.overflow_add-out
 overflow_add-out c =
-    let turn : c.loop-i.i < eights c.args.n = omega arith in
-    let within : c.loop-i.i < most_texels = inside c.args.n (turn) c.requires in
-    high_fits within
+    high_fits (inside c.args.n (omega arith) c.requires)
 
 pub offset_bounds-out-i-in-loop-i : goal.offset_bounds-out-i-in-loop-i
 offset_bounds-out-i-in-loop-i c =
-    let turn : c.loop-i.i < eights c.args.n = omega arith in
-    let within : c.loop-i.i < most_texels = inside c.args.n (turn) c.requires in
-    high-offset within
+    high-offset (inside c.args.n (omega arith) c.requires)
 
 pub bounds-out-i-in-loop-i : goal.bounds-out-i-in-loop-i
 bounds-out-i-in-loop-i c =
-    let turn : c.loop-i.i < eights c.args.n = omega arith in
-    let within : c.loop-i.i < most_texels = inside c.args.n (turn) c.requires in
-    high-in within
+    high-in (inside c.args.n (omega arith) c.requires)
 
 pub overflow_add-i : goal.overflow_add-i
 overflow_add-i c =
-    let turn : c.loop-i.i < eights c.args.n = omega arith in
-    let within : c.loop-i.i < most_texels = inside c.args.n (turn) c.requires in
-    next_fits within
+    next_fits (inside c.args.n (omega arith) c.requires)
 
 pub loop-i-smaller : goal.loop-i-smaller
 loop-i-smaller c =
-    let turn : c.loop-i.i < eights c.args.n = omega arith in
-    less-left turn
+    less-left (omega arith)
 
 pub loop-i-preserved : goal.loop-i-preserved
 loop-i-preserved c =
-    let turn : c.loop-i.i < eights c.args.n = omega arith in
     let low = c.joined.ensures in
     let high = c.joined-in-loop-i.ensures in
-    (next_le turn, byte-stores _ _ _ _ _ _ _ _ _ _ c.loop-i.invariant.1 refl (omega arith) (omega arith) low.0 high.0)
+    (next_le (omega arith), byte-stores _ _ _ _ _ _ _ _ _ _ c.loop-i.invariant.1 refl (omega arith) (omega arith) low.0 high.0)
 
 pub returns : goal.returns
 returns c =

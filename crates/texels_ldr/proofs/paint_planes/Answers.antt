@@ -1,8 +1,7 @@
 -- `texels_ldr::paint_planes`: the lanes before 2 * i are those of the texels before i. Assumes nothing.
 use mathlib.Core.Path.{◌≡◌, refl}
-use Prim.Native.Nat.{◌<◌, zero-le}
+use Prim.Native.Nat.{zero-le}
 use Rattle.laws.specs.Lists.{put-none}
-use Rattle.footprint.specs.Footprints.{most_texels}
 use Rattle.texels.specs.TurnLaws.{inside, next_fits, next_le, less-left, low_fits, low-in, high_fits, high-in, low-offset, high-offset}
 use Rattle.lanes.specs.Lanes.{eights}
 use Rattle.texels_ldr.specs.LdrLaws.{ldr-stores}
@@ -14,9 +13,7 @@ loop-i-init c = (zero-le, put-none _ 0 _)
 
 pub weights_at-v-requires : goal.weights_at-v-requires
 weights_at-v-requires c =
-    let turn : c.loop-i.i < eights c.args.n = omega arith in
-    let within : c.loop-i.i < most_texels = inside c.args.n (turn) c.requires.fact_1.0 in
-    record { fact_1 = (c.requires.fact_1.1, within); fact_2 = c.requires.fact_2 }
+    record { fact_1 = (c.requires.fact_1.1, (inside c.args.n (omega arith) c.requires.fact_1.0)); fact_2 = c.requires.fact_2 }
 
 pub pair-requires : goal.pair-requires
 pair-requires c =
@@ -26,21 +23,15 @@ pair-requires c =
 
 pub overflow_mul-out : goal.overflow_mul-out
 overflow_mul-out c =
-    let turn : c.loop-i.i < eights c.args.n = omega arith in
-    let within : c.loop-i.i < most_texels = inside c.args.n (turn) c.requires.fact_1.0 in
-    low_fits within
+    low_fits (inside c.args.n (omega arith) c.requires.fact_1.0)
 
 pub offset_bounds-out-i : goal.offset_bounds-out-i
 offset_bounds-out-i c =
-    let turn : c.loop-i.i < eights c.args.n = omega arith in
-    let within : c.loop-i.i < most_texels = inside c.args.n (turn) c.requires.fact_1.0 in
-    low-offset within
+    low-offset (inside c.args.n (omega arith) c.requires.fact_1.0)
 
 pub bounds-out-i : goal.bounds-out-i
 bounds-out-i c =
-    let turn : c.loop-i.i < eights c.args.n = omega arith in
-    let within : c.loop-i.i < most_texels = inside c.args.n (turn) c.requires.fact_1.0 in
-    low-in within
+    low-in (inside c.args.n (omega arith) c.requires.fact_1.0)
 
 pub pair-requires-in-loop-i : goal.pair-requires-in-loop-i
 pair-requires-in-loop-i c =
@@ -50,44 +41,32 @@ pair-requires-in-loop-i c =
 
 pub overflow_mul-out-in-loop-i : goal.overflow_mul-out-in-loop-i
 overflow_mul-out-in-loop-i c =
-    let turn : c.loop-i.i < eights c.args.n = omega arith in
-    let within : c.loop-i.i < most_texels = inside c.args.n (turn) c.requires.fact_1.0 in
-    low_fits within
+    low_fits (inside c.args.n (omega arith) c.requires.fact_1.0)
 
 pub overflow_add-out : goal.overflow_add-out
 overflow_add-out c =
-    let turn : c.loop-i.i < eights c.args.n = omega arith in
-    let within : c.loop-i.i < most_texels = inside c.args.n (turn) c.requires.fact_1.0 in
-    high_fits within
+    high_fits (inside c.args.n (omega arith) c.requires.fact_1.0)
 
 pub offset_bounds-out-i-in-loop-i : goal.offset_bounds-out-i-in-loop-i
 offset_bounds-out-i-in-loop-i c =
-    let turn : c.loop-i.i < eights c.args.n = omega arith in
-    let within : c.loop-i.i < most_texels = inside c.args.n (turn) c.requires.fact_1.0 in
-    high-offset within
+    high-offset (inside c.args.n (omega arith) c.requires.fact_1.0)
 
 pub bounds-out-i-in-loop-i : goal.bounds-out-i-in-loop-i
 bounds-out-i-in-loop-i c =
-    let turn : c.loop-i.i < eights c.args.n = omega arith in
-    let within : c.loop-i.i < most_texels = inside c.args.n (turn) c.requires.fact_1.0 in
-    high-in within
+    high-in (inside c.args.n (omega arith) c.requires.fact_1.0)
 
 pub overflow_add-i : goal.overflow_add-i
 overflow_add-i c =
-    let turn : c.loop-i.i < eights c.args.n = omega arith in
-    let within : c.loop-i.i < most_texels = inside c.args.n (turn) c.requires.fact_1.0 in
-    next_fits within
+    next_fits (inside c.args.n (omega arith) c.requires.fact_1.0)
 
 pub loop-i-smaller : goal.loop-i-smaller
 loop-i-smaller c =
-    let turn : c.loop-i.i < eights c.args.n = omega arith in
-    less-left turn
+    less-left (omega arith)
 
 pub loop-i-preserved : goal.loop-i-preserved
 loop-i-preserved c =
-    let turn : c.loop-i.i < eights c.args.n = omega arith in
     let v = c.weights_at-v.ensures in
-    (next_le turn, ldr-stores _ c.args.e c.args.e _ _ _ c.requires.fact_1.2 c.loop-i.invariant.1 refl refl v.r v.g v.b v.a c.pair.ensures c.pair-in-loop-i.ensures)
+    (next_le (omega arith), ldr-stores _ c.args.e c.args.e _ _ _ c.requires.fact_1.2 c.loop-i.invariant.1 refl refl v.r v.g v.b v.a c.pair.ensures c.pair-in-loop-i.ensures)
 
 pub returns : goal.returns
 returns c =

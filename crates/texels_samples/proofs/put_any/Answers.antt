@@ -1,9 +1,7 @@
 -- `texels_samples::put_any`: the lanes before i have the samples of the texels before i. Assumes nothing.
-use Prim.Native.Nat.{◌+◌, ◌<◌, zero-le}
+use Prim.Native.Nat.{◌+◌, zero-le}
 use lib.ListN.{get_or}
 use Rattle.laws.specs.Lists.{put_at-none, put_at-turn, put_at-end}
-use Rattle.footprint.specs.Footprints.{most_texels}
-use Rattle.lanes.specs.Lanes.{eights}
 use Rattle.texels.specs.TurnLaws.{inside, next_fits, next_le, less-left, weight-fits, weight-in}
 use Rattle.texels_samples.specs.PlaneLaws.{any-limit, any-is, lane-fits, lane-offset, lane_in}
 use native.Mathlib.Omega.{arith}
@@ -14,9 +12,7 @@ loop-i-init c = (zero-le, put_at-none _ _ _)
 
 pub bounds-partitions-i : goal.bounds-partitions-i
 bounds-partitions-i c =
-    let turn : c.loop-i.i < eights c.args.n = omega arith in
-    let within : c.loop-i.i < most_texels = inside c.args.n (turn) c.requires.at_bound.1 in
-    within
+    inside c.args.n (omega arith) c.requires.at_bound.1
 
 pub any-requires : goal.any-requires
 any-requires c =
@@ -32,15 +28,11 @@ any-requires-in-loop-i-2 c =
 
 pub overflow_add-x : goal.overflow_add-x
 overflow_add-x c =
-    let turn : c.loop-i.i < eights c.args.n = omega arith in
-    let within : c.loop-i.i < most_texels = inside c.args.n (turn) c.requires.at_bound.1 in
-    weight-fits within c.requires.at_bound.2
+    weight-fits (inside c.args.n (omega arith) c.requires.at_bound.1) c.requires.at_bound.2
 
 pub bounds-w-x : goal.bounds-w-x
 bounds-w-x c =
-    let turn : c.loop-i.i < eights c.args.n = omega arith in
-    let within : c.loop-i.i < most_texels = inside c.args.n (turn) c.requires.at_bound.1 in
-    weight-in within c.requires.at_bound.2
+    weight-in (inside c.args.n (omega arith) c.requires.at_bound.1) c.requires.at_bound.2
 
 pub sample-requires : goal.sample-requires
 sample-requires c =
@@ -50,38 +42,28 @@ sample-requires c =
 
 pub overflow_add-out : goal.overflow_add-out
 overflow_add-out c =
-    let turn : c.loop-i.i < eights c.args.n = omega arith in
-    let within : c.loop-i.i < most_texels = inside c.args.n (turn) c.requires.at_bound.1 in
-    lane-fits c.requires.at_bound.0 within
+    lane-fits c.requires.at_bound.0 (inside c.args.n (omega arith) c.requires.at_bound.1)
 
 pub offset_bounds-out-at : goal.offset_bounds-out-at
 offset_bounds-out-at c =
-    let turn : c.loop-i.i < eights c.args.n = omega arith in
-    let within : c.loop-i.i < most_texels = inside c.args.n (turn) c.requires.at_bound.1 in
-    lane-offset c.requires.at_bound.0 within
+    lane-offset c.requires.at_bound.0 (inside c.args.n (omega arith) c.requires.at_bound.1)
 
 pub bounds-out-at : goal.bounds-out-at
 bounds-out-at c =
-    let turn : c.loop-i.i < eights c.args.n = omega arith in
-    let within : c.loop-i.i < most_texels = inside c.args.n (turn) c.requires.at_bound.1 in
-    lane_in c.requires.at_bound.0 within
+    lane_in c.requires.at_bound.0 (inside c.args.n (omega arith) c.requires.at_bound.1)
 
 pub overflow_add-i : goal.overflow_add-i
 overflow_add-i c =
-    let turn : c.loop-i.i < eights c.args.n = omega arith in
-    let within : c.loop-i.i < most_texels = inside c.args.n (turn) c.requires.at_bound.1 in
-    next_fits within
+    next_fits (inside c.args.n (omega arith) c.requires.at_bound.1)
 
 pub loop-i-smaller : goal.loop-i-smaller
 loop-i-smaller c =
-    let turn : c.loop-i.i < eights c.args.n = omega arith in
-    less-left turn
+    less-left (omega arith)
 
 pub loop-i-preserved : goal.loop-i-preserved
 loop-i-preserved c =
-    let turn : c.loop-i.i < eights c.args.n = omega arith in
     let i = c.loop-i.i in (
-      next_le turn,
+      next_le (omega arith),
       put_at-turn _ _ _ _ _ _ c.loop-i.invariant.1 (any-is c.args.s (get_or c.args.partitions.now i 0) (get_or c.args.w.now (c.args.x + i) 0) c.any.ensures c.any-in-loop-i.ensures c.any-in-loop-i-2.ensures c.sample.ensures),
     )
 
