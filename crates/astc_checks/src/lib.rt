@@ -3,31 +3,32 @@
 #![tactic(auto)]
 
 ghost use Rattle.std.specs.Prelude.{◌≡◌};
+ghost use Rattle.answers.specs.Results.{refused};
 ghost use Rattle.astc_checks.specs.Checks.{options_refusal, places_refusal};
 
+use answers::Refusal;
 use image_shape::Shape;
 
-// 0, or why a call with these options is refused.
-pub fn options_refusal(options: u32) -> usize
-    ensures { result ≡ options_refusal options }
+// Why a call with these options is refused, if it is.
+#[tactic(auto, unfolding(crate::specs::Checks::options_refusal))]
+pub fn options_refusal(options: u32) -> Result<(), Refusal>
+    ensures { refused result ≡ options_refusal options }
 {
     if options != 0 {
-        return answers::OPTIONS;
+        return Err(Refusal::Options);
     }
-    0
+    Ok(())
 }
 
-// 0 where a step has the three places in which C reads where it led; else why the step is refused,
-// the image's own refusals first.
-pub fn places_refusal(m: Shape, len: usize, room: usize, places: usize) -> usize
-    ensures { result ≡ places_refusal m len room places }
+// Why a step without the three places in which C reads where it led is refused, the image's own
+// refusals first.
+#[tactic(auto, unfolding(crate::specs::Checks::places_refusal))]
+pub fn places_refusal(m: Shape, len: usize, room: usize, places: usize) -> Result<(), Refusal>
+    ensures { refused result ≡ places_refusal m len room places }
 {
     if places < 3 {
-        let a = image_shape::refusal(m, len, room);
-        if a == 0 {
-            return answers::OUTPUT_TOO_SHORT;
-        }
-        return a;
+        image_shape::refusal(m, len, room)?;
+        return Err(Refusal::OutputTooShort);
     }
-    0
+    Ok(())
 }

@@ -8,6 +8,7 @@ ghost use Rattle.block_map.specs.Answer.{block_map};
 ghost use Rattle.block_map.specs.AnswerLaws.{MapBounds};
 ghost use Rattle.astc_numbers.specs.Numbers.{numbers_of, map_answer_in, map_in, led_to};
 
+use answers::Refusal;
 use footprint::Footprint;
 use params_map::BlockMap;
 
@@ -28,20 +29,8 @@ fn numbers_of(m: BlockMap) -> [u32; 9]
     ]
 }
 
-fn put_numbers(out: &mut [u32], n: &[u32; 9])
-    requires { 9 ≤ length out.old }
-    ensures { out.new ≡
-        put (λ (k : ℕ). get_or n.now k 0) 0 9 out.old }
-{
-    let mut i = 0;
-    while i < 9 {
-        out[i] = n[i];
-        i += 1;
-    }
-}
-
 // Puts the map of a block at the footprint bw by bh into the first nine places of `map`, and gives
-// the answer.
+// the answer by number, as the map's record has it.
 pub fn put_map(block: &[u8], bw: usize, bh: usize, map: &mut [u32]) -> usize
     ensures value { result ≡
         map_answer_in (block_map block.now (footprint bw bh))
@@ -54,14 +43,13 @@ pub fn put_map(block: &[u8], bw: usize, bh: usize, map: &mut [u32]) -> usize
         height: bh,
     };
     let m = block_map::block_map(block, f);
-    if m.answer >= answers::BLOCK_LENGTH {
+    if m.answer >= Refusal::BlockLength as usize {
         return m.answer;
     }
     if map.len() < 9 {
-        return answers::OUTPUT_TOO_SHORT;
+        return Refusal::OutputTooShort as usize;
     }
-    let n = numbers_of(m);
-    put_numbers(map, &n);
+    map[..9].copy_from_slice(&numbers_of(m));
     m.answer
 }
 
@@ -72,7 +60,5 @@ pub fn put_led(moved: &mut [u64], next: usize, painted: usize, bad: usize)
     ensures { moved.new ≡
         put (λ (k : ℕ). get_or (led_to next painted bad) k 0) 0 3 moved.old }
 {
-    moved[0] = next as u64;
-    moved[1] = painted as u64;
-    moved[2] = bad as u64;
+    moved[..3].copy_from_slice(&[next as u64, painted as u64, bad as u64]);
 }

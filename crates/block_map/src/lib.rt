@@ -11,9 +11,8 @@ use params_map::BlockMap;
 pub fn block_map(s: &[u8], f: Footprint) -> BlockMap
     ensures { result ≡ block_map s.now f }
 {
-    let a = block_refusal::first_refusal(s.len(), f);
-    if a != 0 {
-        return params_map::no_map(a);
+    match block_refusal::first_refusal(s.len(), f) {
+        Ok(()) => params_map::decode_block_map(block_load::load(s), f),
+        Err(refusal) => params_map::no_map(usize::from(refusal)),
     }
-    params_map::decode_block_map(block_load::load(s), f)
 }

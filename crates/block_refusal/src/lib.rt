@@ -2,47 +2,43 @@
 #![tactic(auto)]
 
 ghost use Rattle.std.specs.Prelude.{◌≡◌};
+ghost use Rattle.answers.specs.Results.{refused};
 ghost use Rattle.block_refusal.specs.Refusal.{first_refusal, block_refusal, texel_refusal};
 
+use answers::Refusal;
 use footprint::Footprint;
 
-// 0, or why every call with `len` bytes and this footprint is refused.
-pub fn first_refusal(len: usize, f: Footprint) -> usize
-    ensures { result ≡ first_refusal len f }
+// Why every call with `len` bytes and this footprint is refused.
+pub fn first_refusal(len: usize, f: Footprint) -> Result<(), Refusal>
+    ensures { refused result ≡ first_refusal len f }
 {
     if len != 16 {
-        return answers::BLOCK_LENGTH;
+        return Err(Refusal::BlockLength);
     }
     if footprint::is_listed(f) {
-        return 0;
+        return Ok(());
     }
-    answers::FOOTPRINT
+    Err(Refusal::Footprint)
 }
 
-// 0, or why a call for all texels is refused, with room for so many.
-pub fn refusal(len: usize, f: Footprint, room: usize) -> usize
-    ensures { result ≡ block_refusal len f room }
+// Why a call for all texels is refused, with room for so many.
+pub fn refusal(len: usize, f: Footprint, room: usize) -> Result<(), Refusal>
+    ensures { refused result ≡ block_refusal len f room }
 {
-    let a = first_refusal(len, f);
-    if a != 0 {
-        return a;
-    }
+    first_refusal(len, f)?;
     if room < f.width * f.height {
-        return answers::OUTPUT_TOO_SHORT;
+        return Err(Refusal::OutputTooShort);
     }
-    0
+    Ok(())
 }
 
-// 0, or why a call for the texel t, counted row by row, is refused.
-pub fn texel_refusal(len: usize, f: Footprint, t: usize) -> usize
-    ensures { result ≡ texel_refusal len f t }
+// Why a call for the texel t, counted row by row, is refused.
+pub fn texel_refusal(len: usize, f: Footprint, t: usize) -> Result<(), Refusal>
+    ensures { refused result ≡ texel_refusal len f t }
 {
-    let a = first_refusal(len, f);
-    if a != 0 {
-        return a;
-    }
+    first_refusal(len, f)?;
     if t < f.width * f.height {
-        return 0;
+        return Ok(());
     }
-    answers::POSITION
+    Err(Refusal::Position)
 }

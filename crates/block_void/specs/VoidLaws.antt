@@ -1,6 +1,6 @@
--- What the answer of a void block tells, and the two ways out of its colour.
+-- What the answer of a void block tells, and the two kinds of samples, and the word by them.
 -- Assumes nothing.
-use Rattle.std.specs.Prelude.{◌≡◌, Bool, ℕ}
+use Rattle.std.specs.Prelude.{◌≡◌, Bool, ℕ, ◌+◌, ◌*◌, eqb}
 use Rattle.std.proofs.Math.Path.{refl}
 use Rattle.std.proofs.Common.{sym, ◌∙◌, suc-ne-zero}
 use Rattle.std.proofs.Math.Bool.{true, false, cond}
@@ -61,3 +61,33 @@ module _ (v x : ℕ) (e : x ≡ bits_at v 9 1) (r g b a : Sample) where
       → record { r = r; g = g; b = b; a = a } ≡ void_samples v
   unfolding void_sample
   samples-bytes h er eg eb ea = rw (er, eg, eb, ea, ne_eqb (bits_at v 9 1) 1 (λ z. h (e ∙ z)))
+
+-- ---- its samples
+module _ (v k x : ℕ) where
+  pub sample-half : bits_at v 9 1 ≡ 1 → x ≡ bits_at v (64 + 16 * k) 16 → Half x ≡ void_sample v k
+  unfolding void_sample
+  sample-half h e = rw (e, eq-eqb (bits_at v 9 1) 1 h)
+
+  pub sample-high : (bits_at v 9 1 ≡ 1 → ⊥) → x ≡ bits_at v (72 + 16 * k) 8 → Byte x ≡ void_sample v k
+  unfolding void_sample
+  sample-high h e = rw (e, ne_eqb (bits_at v 9 1) 1 h)
+
+-- ---- the colour
+-- a channel's byte: a half goes as the original reads it
+abbrev pub sample_byte : Sample → ℕ
+sample_byte (Byte byte) = byte
+sample_byte (Half pattern) = void_byte_of pattern
+
+-- the word is that of the samples
+pub word-sampled : (v : ℕ) → word_of (sample_byte (void_sample v 0)) (sample_byte (void_sample v 1)) (sample_byte (void_sample v 2)) (sample_byte (void_sample v 3)) ≡ void_word v
+unfolding void_word void_sample
+word-sampled v = go (eqb (bits_at v 9 1) 1)
+  where
+    one : Bool → ℕ → ℕ
+    one t k = sample_byte (cond t (Half (bits_at v (64 + 16 * k) 16)) (Byte (bits_at v (72 + 16 * k) 8)))
+
+    go : (t : Bool) → word_of (one t 0) (one t 1) (one t 2) (one t 3)
+        ≡ cond t (word_of (void_byte_of (bits_at v 64 16)) (void_byte_of (bits_at v 80 16)) (void_byte_of (bits_at v 96 16)) (void_byte_of (bits_at v 112 16)))
+        (word_of (bits_at v 72 8) (bits_at v 88 8) (bits_at v 104 8) (bits_at v 120 8))
+    go true = refl
+    go false = refl

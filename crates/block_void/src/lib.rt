@@ -1,38 +1,47 @@
-// A void block: whether a block is one, by its answer, and its one colour, which stands in its
-// upper half, as a word and as samples.
+// A void block's one colour, which stands in its upper half, as a word and as samples.
 #![tactic(auto)]
 
-ghost use Rattle.std.specs.Prelude.{◌≡◌, ◌≤◌};
-ghost use Rattle.bits.specs.Bits.{bits_at};
+ghost use Rattle.std.specs.Prelude.{◌≡◌, ◌<◌};
 ghost use Rattle.bits.specs.Blocks.{value_of};
-ghost use Rattle.half.specs.Half.{void_byte_of};
-ghost use Rattle.block_void.specs.Void.{void_answer, void_word, void_samples};
+ghost use Rattle.block_void.specs.Void.{void_word, void_sample, void_samples};
+ghost use Rattle.block_void.specs.VoidLaws.{sample_byte};
 
 use bits::Block;
 use channels::{Sample, Samples};
 
-// 1 for a void block, and 0 for any other, which is then to be decoded.
-pub fn void_answer(b: Block) -> usize
-    ensures { result ≡ void_answer (value_of b) }
+// Channel k of a void block's colour, of 0 to 3 for red to alpha, as `void_sample` has it: a half, or the high byte of its
+// sixteen bits.
+fn void_sample(b: Block, k: usize) -> Sample
+    requires { k < 4 }
+    ensures { result ≡ void_sample (value_of b) k }
 {
-    if params_low::is_void(b) {
-        return answers::VOID_EXTENT;
+    if bits::getbits(b, 9, 1) == 1 {
+        Sample::Half(bits::getbits(b, 64 + 16 * k, 16) as u16)
+    } else {
+        Sample::Byte(bits::getbits(b, 72 + 16 * k, 8) as u8)
     }
-    answers::LEGAL
 }
 
-fn void_half(b: Block, at: usize) -> u8
-    requires { at ≤ 112 }
-    ensures { result ≡ void_byte_of (bits_at (value_of b) at 16) }
+// The channels of a void block's one colour.
+pub fn void_samples(b: Block) -> Samples
+    ensures { result ≡ void_samples (value_of b) }
 {
-    half::f16_to_u8(bits::getbits(b, at, 16) as u16)
+    Samples {
+        r: void_sample(b, 0),
+        g: void_sample(b, 1),
+        b: void_sample(b, 2),
+        a: void_sample(b, 3),
+    }
 }
 
-fn void_byte(b: Block, at: usize) -> u8
-    requires { at ≤ 120 }
-    ensures { result ≡ bits_at (value_of b) at 8 }
+// The byte of a sample. It is no `From`, because `Sample` is a type of another crate.
+fn sample_byte(sample: Sample) -> u8
+    ensures { result ≡ sample_byte sample }
 {
-    bits::getbits(b, at, 8) as u8
+    match sample {
+        Sample::Byte(byte) => byte,
+        Sample::Half(pattern) => half::f16_to_u8(pattern),
+    }
 }
 
 // The one colour of a void block. The block is made anew of its two words, which are then handed
@@ -44,53 +53,11 @@ pub fn void_color(whole: Block) -> u32
         lo: whole.lo,
         hi: whole.hi,
     };
-    if bits::getbits(b, 9, 1) == 1 {
-        return blend::color(
-            void_half(b, 64),
-            void_half(b, 80),
-            void_half(b, 96),
-            void_half(b, 112),
-        );
-    }
+    let samples = void_samples(b);
     blend::color(
-        void_byte(b, 72),
-        void_byte(b, 88),
-        void_byte(b, 104),
-        void_byte(b, 120),
+        sample_byte(samples.r),
+        sample_byte(samples.g),
+        sample_byte(samples.b),
+        sample_byte(samples.a),
     )
-}
-
-fn half_sample(b: Block, at: usize) -> Sample
-    requires { at ≤ 112 }
-    ensures { result ≡ Sample.Half (bits_at (value_of b) at 16) }
-{
-    Sample::Half(bits::getbits(b, at, 16) as u16)
-}
-
-fn byte_sample(b: Block, at: usize) -> Sample
-    requires { at ≤ 120 }
-    ensures { result ≡ Sample.Byte (bits_at (value_of b) at 8) }
-{
-    Sample::Byte(bits::getbits(b, at, 8) as u8)
-}
-
-// The channels of a void block's one colour.
-pub fn void_samples(b: Block) -> Samples
-    ensures { result ≡ void_samples (value_of b) }
-{
-    let form = bits::getbits(b, 9, 1);
-    if form == 1 {
-        return Samples {
-            r: half_sample(b, 64),
-            g: half_sample(b, 80),
-            b: half_sample(b, 96),
-            a: half_sample(b, 112),
-        };
-    }
-    Samples {
-        r: byte_sample(b, 72),
-        g: byte_sample(b, 88),
-        b: byte_sample(b, 104),
-        a: byte_sample(b, 120),
-    }
 }

@@ -1,12 +1,15 @@
 -- What the parameters of a block are by its answer, and that nothing outside its map counts.
 -- Assumes nothing.
-use Rattle.std.specs.Prelude.{◌≡◌, Bool, cond, ℕ, ◌+◌, ◌-◌, ◌*◌, ◌/◌, ◌≤◌, ◌<◌}
+use Rattle.std.specs.Prelude.{◌≡◌, Bool, cond, ℕ, ◌+◌, ◌-◌, ◌*◌, ◌/◌, ◌≤◌, ◌<◌, Result, Ok, Err, IfOk, IsErrAnd}
 use Rattle.std.proofs.Math.Path.{refl, sym}
 use Rattle.std.proofs.Common.{ap, ◌∙◌, arith, lt_of_lt_of_le, pow_mono}
 use Rattle.std.proofs.Math.Bool.{true, false}
 use Rattle.std.proofs.Math.Dec.{eqb}
 use borrow.Author.Tests.{eq-eqb, ne_eqb, eqb-true, eqb-false}
 use Rattle.laws.specs.Numbers.{choice}
+use Rattle.answers.specs.Results.{rule_number}
+use Rattle.answers.specs.ResultLaws.{rule-least, one-rule}
+use Rattle.answers.specs.declared.Rule.{Rule}
 use Rattle.bits.specs.Bits.{bits_at, reversed}
 use Rattle.bits.specs.BitLaws.{bits-lt}
 use Rattle.bits_reversal.specs.ReversalLaws.{reversed-top}
@@ -23,7 +26,7 @@ use Rattle.params_rules.specs.FieldLaws.{ordinary, low-is, extra-is, told-reserv
 use Rattle.params_room.specs.RoomLaws.{Widest, range-is}
 use Rattle.params_map.specs.Map.{legal_map, map_in, map_of}
 use Rattle.params_map.specs.MapLaws.{map-answer, map-legal, in_order, Mapped, SameBlock, unmapped}
-use Rattle.params.specs.Params.{upper_of, code_in, legal, refused, params_in, params_of, ends_field, weights_field}
+use Rattle.params.specs.Params.{upper_of, code_in, legal, refused, told, params_in, params_of, ends_field, weights_field}
 use Rattle.params.specs.declared.Params.{Params}
 
 -- ---- by the answer
@@ -43,6 +46,18 @@ module _ (t : Fields) (f : Footprint) where
   pub refused-is : (a : ℕ) → answer t f ≡ a → (a ≡ 0 → ⊥) → params_in t f ≡ refused a
   unfolding params_in
   refused-is a e z = rw (e, ne_eqb a 0 z)
+
+-- ---- a result that a rule is passed up in tells the rule's parameters, and none but one result tells what it does
+pub passed-told : (r : Result Params Rule) (e : Rule) → IsErrAnd r (λ d. d ≡ e) → told r ≡ refused (rule_number e)
+passed-told (Ok p) e h = absurd h
+passed-told (Err d) e h = ap (λ (x : Rule). refused (rule_number x)) h
+
+pub one-told : (a b : Result Params Rule) → told a ≡ told b → IfOk a (λ p. p.answer ≡ 0) → IfOk b (λ p. p.answer ≡ 0) → a ≡ b
+unfolding refused
+one-told (Ok p) (Ok q) h m n = ap (λ (x : Params). Ok x) h
+one-told (Ok p) (Err s) h m n = absurd (omega (arith, ap (λ (x : Params). x.answer) h, m, rule-least s))
+one-told (Err r) (Ok q) h m n = absurd (omega (arith, ap (λ (x : Params). x.answer) h, n, rule-least r))
+one-told (Err r) (Err s) h m n = ap (λ (x : Rule). Err x) (one-rule r s (ap (λ (x : Params). x.answer) h))
 
 -- ---- the ways out of the code for a block that is not void, by its flag and its parts' results
 pub out-reserved : (v : ℕ) (f : Footprint) (c : ℕ) (r : Params) (s : Bool) → c ≡ low_of v → is_void v ≡ false → s ≡ is_reserved c → s ≡ true → r ≡ refused 10 → r ≡ params_of v f

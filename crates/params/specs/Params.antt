@@ -1,8 +1,10 @@
 -- A block's parameters. v is the block's number of 128 bits; its bits are read by whole fields alone.
 -- Written from the ASTC chapter's sections "Block Layout", "Color Endpoint Mode" and "Dual-Plane Decoding".
 -- Assumes nothing.
-use Rattle.std.specs.Prelude.{cond, [], ◌∷◌, ℕ, ◌+◌, ◌*◌, ◌/◌, ◌%◌, eqb}
+use Rattle.std.specs.Prelude.{cond, [], ◌∷◌, ℕ, ◌+◌, ◌*◌, ◌/◌, ◌%◌, eqb, Result, Ok, Err}
 use Rattle.answers.specs.Answers.{legal as legal_answer}
+use Rattle.answers.specs.Results.{rule_number}
+use Rattle.answers.specs.declared.Rule.{Rule}
 use Rattle.footprint.specs.declared.Footprint.{Footprint}
 use Rattle.bits.specs.Bits.{bits_at, reversed}
 use Rattle.params_modes.specs.Modes.{modes_of}
@@ -41,6 +43,11 @@ no_config = record { width = 0; height = 0; weight_range = 0; planes = 0; parts 
 -- of any other block
 unfoldable pub refused : ℕ → Params
 refused a = record { answer = a; config = no_config; channel = 0; mode_code = 0; modes = 0 ∷ 0 ∷ 0 ∷ 0 ∷ []; endpoint_range = 0 }
+
+-- those that a result tells
+abbrev pub told : Result Params Rule → Params
+told (Ok p) = p
+told (Err rule) = refused (rule_number rule)
 
 -- of a block with the fields t at the footprint f
 unfoldable pub params_in : Fields → Footprint → Params

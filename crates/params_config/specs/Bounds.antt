@@ -130,6 +130,15 @@ pub d-most : (c : ℕ) → weight_d c ≤ 1
 unfolding weight_d
 d-most c = choice-le (lacks_dh c) 0 (bits_at c 10 1) (omega arith) (omega (arith, bits-lt c 10 1))
 
+-- as the code reads them
+pub h-bit : (c x : ℕ) → x ≡ cond (lacks_dh c) 0 (bits_at c 9 1) → x ≡ weight_h c
+unfolding weight_h
+h-bit c x e = e
+
+pub d-bit : (c x : ℕ) → x ≡ cond (lacks_dh c) 0 (bits_at c 10 1) → x ≡ weight_d c
+unfolding weight_d
+d-bit c x e = e
+
 -- ---- partitions and modes
 pub parts-most : (c : ℕ) → parts_of c ≤ 4
 unfolding parts_of bits_at

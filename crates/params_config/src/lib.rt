@@ -2,19 +2,25 @@
 // partitions and where their modes stand.
 #![tactic(auto)]
 
-ghost use Rattle.std.specs.Prelude.{◌≡◌, false, ◌*◌, ◌≤◌, ◌<◌};
+ghost use Rattle.std.specs.Prelude.{◌≡◌, cond, false, ◌*◌, ◌≤◌, ◌<◌};
 ghost use Rattle.footprint.specs.Footprints.{most_weights};
+ghost use Rattle.bits.specs.Bits.{bits_at};
 ghost use Rattle.params_config.specs.Ranges.{cost};
-ghost use Rattle.params_config.specs.Config.{is_reserved, grid_low, grid_high, grid_of, weight_r, weight_h, weight_d, lacks_dh, parts_of, extra_mode_bits, partitions_of, config_of};
+ghost use Rattle.params_config.specs.Config.{is_reserved, grid_low, grid_high, grid_of, weight_r, lacks_dh, parts_of, extra_mode_bits, partitions_of, config_of};
 
-#[derive(Clone, Copy)]
+use params_modes::Modes;
+
+// The grid of a block's weights. It is no `Footprint`, though it has the same fields: the
+// definitions `grid_low`, `grid_high` and `grid_of` give this record, and it counts weights and no
+// texels.
+#[derive(Clone, Copy, Debug, PartialEq, Eq, Hash)]
 pub struct Grid {
     pub width: usize,
     pub height: usize,
 }
 
 // What the low configuration says of the partitions.
-#[derive(Clone, Copy)]
+#[derive(Clone, Copy, Debug, PartialEq, Eq, Hash)]
 pub struct Partitions {
     pub parts: usize,
     pub number: usize,
@@ -27,8 +33,11 @@ pub struct Partitions {
 
 // What the low configuration says of a block whose mode is not reserved. The base and the low modes
 // are the endpoint modes as they stand in it: the base is 0 where one mode serves all partitions,
-// and the low modes are the four lowest of the mode bits.
-#[derive(Clone, Copy)]
+// and the low modes are the four lowest of the mode bits. The base is a number, as the standard has
+// it in two bits and the definition `mode_base` gives it. Its bounds, `ConfigBounds`, are no ghost
+// field: a block that is refused has a configuration of zeros, which has none. Its grid and its
+// partitions are no fields, since the definitions and theorems name the numbers in them.
+#[derive(Clone, Copy, Debug, Default, PartialEq, Eq, Hash)]
 pub struct Config {
     pub width: usize,
     pub height: usize,
@@ -44,8 +53,9 @@ pub struct Config {
     pub weight_len: usize,
 }
 
-// The bits of n values of the range of number q.
-fn range_bits(q: usize, n: usize) -> usize
+// The bits of n values of the range of number q. A range goes by its number here, since the
+// definition `cost` speaks of it.
+pub fn range_bits(q: usize, n: usize) -> usize
     requires { (q < 21) × (n ≤ most_weights) }
     ensures { result ≡ cost q n }
 {
@@ -56,13 +66,7 @@ fn range_bits(q: usize, n: usize) -> usize
 pub fn is_reserved(c: usize) -> bool
     ensures { result ≡ is_reserved c }
 {
-    if c % 16 == 0 {
-        return true;
-    }
-    if c % 4 == 0 {
-        return c / 64 % 8 == 7;
-    }
-    false
+    c % 16 == 0 || c % 4 == 0 && c / 64 % 8 == 7
 }
 
 fn grid_high(c: usize) -> Grid
@@ -70,64 +74,28 @@ fn grid_high(c: usize) -> Grid
 {
     let a = c / 32 % 4;
     let b = c / 128 % 4;
-    let s = c / 4 % 4;
-    match s {
-        0 => Grid {
-            width: b + 4,
-            height: a + 2,
-        },
-        1 => Grid {
-            width: b + 8,
-            height: a + 2,
-        },
-        2 => Grid {
-            width: a + 2,
-            height: b + 8,
-        },
-        _ => if c / 256 % 2 == 0 {
-            Grid {
-                width: a + 2,
-                height: c / 128 % 2 + 6,
-            }
-        } else {
-            Grid {
-                width: c / 128 % 2 + 2,
-                height: a + 2,
-            }
-        },
-    }
+    let (width, height) = match c / 4 % 4 {
+        0 => (b + 4, a + 2),
+        1 => (b + 8, a + 2),
+        2 => (a + 2, b + 8),
+        _ if c / 256 % 2 == 0 => (a + 2, c / 128 % 2 + 6),
+        _ => (c / 128 % 2 + 2, a + 2),
+    };
+    Grid { width, height }
 }
 
 fn grid_low(c: usize) -> Grid
     ensures { result ≡ grid_low c }
 {
     let a = c / 32 % 4;
-    let s = c / 128 % 4;
-    match s {
-        0 => Grid {
-            width: 12,
-            height: a + 2,
-        },
-        1 => Grid {
-            width: a + 2,
-            height: 12,
-        },
-        2 => Grid {
-            width: a + 6,
-            height: c / 512 % 4 + 6,
-        },
-        _ => if c / 32 % 2 == 0 {
-            Grid {
-                width: 6,
-                height: 10,
-            }
-        } else {
-            Grid {
-                width: 10,
-                height: 6,
-            }
-        },
-    }
+    let (width, height) = match c / 128 % 4 {
+        0 => (12, a + 2),
+        1 => (a + 2, 12),
+        2 => (a + 6, c / 512 % 4 + 6),
+        _ if c / 32 % 2 == 0 => (6, 10),
+        _ => (10, 6),
+    };
+    Grid { width, height }
 }
 
 fn grid_of(c: usize) -> Grid
@@ -143,30 +111,24 @@ fn grid_of(c: usize) -> Grid
 fn r_of(c: usize) -> usize
     ensures { result ≡ weight_r c }
 {
-    let low = c % 4;
-    if low == 0 {
-        c / 16 % 2 + 2 * (c / 4 % 4)
-    } else {
-        c / 16 % 2 + 2 * low
+    match c % 4 {
+        0 => c / 16 % 2 + 2 * (c / 4 % 4),
+        low => c / 16 % 2 + 2 * low,
     }
 }
 
 fn lacks_dh(c: usize) -> bool
     ensures { result ≡ lacks_dh c }
 {
-    if c % 4 == 0 { c / 128 % 4 == 2 } else { false }
+    c % 4 == 0 && c / 128 % 4 == 2
 }
 
-fn h_of(c: usize) -> usize
-    ensures { result ≡ weight_h c }
+// Bit n of the block mode, of 9 for H, the weights' high precision, and of 10 for D, two planes.
+fn dh_bit(c: usize, n: usize) -> usize
+    requires { n ≤ 10 }
+    ensures { result ≡ cond (lacks_dh c) 0 (bits_at c n 1) }
 {
-    if lacks_dh(c) { 0 } else { c / 512 % 2 }
-}
-
-fn d_of(c: usize) -> usize
-    ensures { result ≡ weight_d c }
-{
-    if lacks_dh(c) { 0 } else { c / 1024 % 2 }
+    if lacks_dh(c) { 0 } else { (c >> n) % 2 }
 }
 
 // The mode bits of a block with several partitions that stand below its weights: with a base, 3 for
@@ -201,12 +163,17 @@ fn several_partitions(c: usize, parts: usize) -> Partitions
 {
     let base = c / 8388608 % 4;
     let low_modes = c / 33554432 % 16;
+    let modes = Modes {
+        parts,
+        base,
+        code: low_modes,
+    };
     Partitions {
         parts,
         number: c / 8192 % 1024,
         base,
         low_modes,
-        values: params_modes::values_of(parts, base, low_modes),
+        values: params_modes::values_of(modes),
         low_len: 29,
         mode_bits: extra_mode_bits(parts, base),
     }
@@ -215,11 +182,9 @@ fn several_partitions(c: usize, parts: usize) -> Partitions
 fn read_partitions(c: usize) -> Partitions
     ensures { result ≡ partitions_of c }
 {
-    let parts = c / 2048 % 4 + 1;
-    if parts == 1 {
-        one_partition(c)
-    } else {
-        several_partitions(c, parts)
+    match c / 2048 % 4 + 1 {
+        1 => one_partition(c),
+        parts => several_partitions(c, parts),
     }
 }
 
@@ -236,8 +201,8 @@ pub fn read_config(c: usize) -> Config
     ensures { result ≡ config_of c }
 {
     let g = grid_of(c);
-    let weight_range = r_of(c) - 2 + 6 * h_of(c);
-    let planes = 1 + d_of(c);
+    let weight_range = r_of(c) - 2 + 6 * dh_bit(c, 9);
+    let planes = 1 + dh_bit(c, 10);
     let p = read_partitions(c);
     let weights = weights_of(g, planes);
     Config {

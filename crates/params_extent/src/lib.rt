@@ -1,17 +1,16 @@
-// The answer of a void block: by the crate's reading always the same, by the standard's reading by
+// The verdict on a void block: by the crate's reading always the same, by the standard's reading by
 // the rules on its extent.
 #![tactic(auto)]
 
 ghost use Rattle.std.specs.Prelude.{◌≡◌, ◌+◌, ◌≤◌, ltb};
+ghost use Rattle.answers.specs.Results.{verdict_number};
 ghost use Rattle.bits.specs.Bits.{bits_at};
 ghost use Rattle.bits.specs.Blocks.{value_of};
 ghost use Rattle.params_extent.specs.Extent.{extent_in, keeps_rules, void_verdict};
 
+use answers::{Rule, Verdict};
 use bits::Block;
 use options::Reading;
-
-// The answer of a void block whose extent breaks a rule.
-pub const BAD_EXTENT: usize = 17;
 
 // Whether the number of thirteen bits that starts at a bit is below the one that follows it.
 fn is_below_next(b: Block, at: usize) -> bool
@@ -32,24 +31,16 @@ fn keeps_rules(b: Block) -> bool
     if bits::getbits(b, 10, 2) != 3 {
         return false;
     }
-    if is_below_next(b, 12) {
-        return is_below_next(b, 38);
-    }
-    false
+    is_below_next(b, 12) && is_below_next(b, 38)
 }
 
-// The answer of a void block.
-pub fn void_verdict(reading: Reading, b: Block) -> usize
-    ensures { result ≡ void_verdict reading (extent_in (value_of b)) }
+// The verdict on a void block.
+pub fn void_verdict(reading: Reading, b: Block) -> Verdict
+    ensures { verdict_number result ≡ void_verdict reading (extent_in (value_of b)) }
 {
     match reading {
-        Reading::Crate => answers::VOID_EXTENT,
-        Reading::Standard => {
-            if keeps_rules(b) {
-                answers::VOID_EXTENT
-            } else {
-                BAD_EXTENT
-            }
-        }
+        Reading::Crate => Verdict::VoidExtent,
+        Reading::Standard if keeps_rules(b) => Verdict::VoidExtent,
+        Reading::Standard => Verdict::Broken(Rule::BadExtent),
     }
 }

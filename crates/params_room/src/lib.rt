@@ -1,29 +1,29 @@
 // The range of a legal block's endpoint values: the widest for which the other fields leave room.
 #![tactic(auto)]
 
-ghost use Rattle.std.specs.Prelude.{◌≡◌, ◌-◌, ◌≤◌, ◌<◌};
-ghost use Rattle.params_rules.specs.Rules.{used};
+ghost use Rattle.std.specs.Prelude.{◌≡◌, ◌-◌, ◌%◌, ◌≤◌, ◌<◌};
 ghost use Rattle.params_room.specs.Room.{widest, end_range};
 ghost use Rattle.params_room.specs.Closed.{Roomy, inverse_of, whole_bits};
 ghost use Rattle.params_room.specs.RoomLaws.{LegalConfig};
 
 use params_config::Config;
 
-// 65536 / n, rounded up, by which a division of a room by n is a product.
+// What the low configuration says of a block that breaks no rule.
+#[derive(Clone, Copy, Debug, PartialEq, Eq, Hash)]
+pub struct Legal {
+    pub config: Config,
+    pub ghost legal: { LegalConfig config },
+}
+
+// 65536 / n, rounded up, for the counts n of 2, 4 and so on to 18.
+const INVERSES: [usize; 9] = [32768, 16384, 10923, 8192, 6554, 5462, 4682, 4096, 3641];
+
+// By this a division of a room by n is a product.
 fn inverse(n: usize) -> usize
+    requires { (n % 2 ≡ 0) × (2 ≤ n) × (n ≤ 18) }
     ensures { (result ≡ inverse_of n) × (result ≤ 32768) }
 {
-    match n {
-        2 => 32768,
-        4 => 16384,
-        6 => 10923,
-        8 => 8192,
-        10 => 6554,
-        12 => 5462,
-        14 => 4682,
-        16 => 4096,
-        _ => 3641,
-    }
+    INVERSES[n / 2 - 1]
 }
 
 // The whole bits of room that each of n values can have.
@@ -53,18 +53,10 @@ fn widest_range(n: usize, room: usize) -> usize
     3 * k - 4
 }
 
-// All bits of a block but those of its endpoints.
-fn used_bits(k: Config) -> usize
-    requires { LegalConfig k }
-    ensures { result ≡ used k }
+// The range of the endpoint values, by its number: the definitions `end_range` and `widest` speak
+// of it.
+pub fn end_range(k: Legal) -> usize
+    ensures { (result ≡ end_range k.config) × (result < 21) }
 {
-    k.low_len + (k.mode_bits + 2 * (k.planes - 1)) + k.weight_len
-}
-
-// The range of the endpoint values.
-pub fn end_range(k: Config) -> usize
-    requires { LegalConfig k }
-    ensures { (result ≡ end_range k) × (result < 21) }
-{
-    widest_range(k.values, 128 - used_bits(k))
+    widest_range(k.config.values, 128 - params_rules::used_bits(k.config))
 }

@@ -1,7 +1,7 @@
 -- What a legal configuration keeps to, and the ways out of the rules.
 -- Assumes nothing.
-use Rattle.std.specs.Prelude.{◌≡◌, refl, Bool, true, false, cond, ◌&&◌, ℕ, suc, ◌+◌, ◌*◌, ◌/◌, ◌≤◌, ◌<◌, ltb, eqb}
-use Rattle.std.proofs.Common.{arith}
+use Rattle.std.specs.Prelude.{◌≡◌, refl, Bool, true, false, cond, ◌&&◌, ◌⊎◌, ℕ, suc, ◌+◌, ◌*◌, ◌/◌, ◌≤◌, ◌<◌, ltb, eqb}
+use Rattle.std.proofs.Common.{⊎_elim, arith}
 use borrow.Author.Tests.{lt-ltb, le-ltb, ltb-false, eq-eqb, ne_eqb}
 use Rattle.laws.specs.Numbers.{choice}
 use Rattle.footprint.specs.declared.Footprint.{Footprint}
@@ -82,6 +82,17 @@ module _ (k : Config) (f : Footprint) where
   pub on-ends-dual : (r : ℕ) → k.width ≤ f.width → k.height ≤ f.height → weights k ≤ 64 → 24 ≤ k.weight_len → k.weight_len ≤ 96 → k.planes ≡ 2 → (k.parts ≡ 4 → ⊥) → r ≡ end_verdict k → r ≡ verdict k f
   unfolding verdict
   on-ends-dual r a b c d e p i g = simp (le-ltb _ _ a, le-ltb _ _ b, le-ltb _ _ c, le-ltb _ _ d, le-ltb _ _ e, eq-eqb _ _ p, ne_eqb _ _ i) g
+
+  -- two ways out with one answer, and the two ways to the endpoints
+  pub on-grid : (f.width < k.width) ⊎ ((k.width ≤ f.width) × (f.height < k.height)) → 11 ≡ verdict k f
+  on-grid t = ⊎_elim on-width (λ p. on-height p.0 p.1) t
+
+  pub on-length : k.width ≤ f.width → k.height ≤ f.height → weights k ≤ 64 → (k.weight_len < 24) ⊎ ((24 ≤ k.weight_len) × (96 < k.weight_len)) → 13 ≡ verdict k f
+  on-length a b c t = ⊎_elim (on-few a b c) (λ p. on-long a b c p.0 p.1) t
+
+  pub on-any-ends : (r : ℕ) → k.width ≤ f.width → k.height ≤ f.height → weights k ≤ 64 → 24 ≤ k.weight_len → k.weight_len ≤ 96
+      → ((k.planes ≡ 2) × (k.parts ≡ 4 → ⊥)) ⊎ (k.planes ≡ 2 → ⊥) → r ≡ end_verdict k → r ≡ verdict k f
+  on-any-ends r a b c d e t g = ⊎_elim (λ p. on-ends-dual r a b c d e p.0 p.1 g) (λ n. on-ends r a b c d e n g) t
 
 -- ---- no rule answers 1
 pub neither : (b : Bool) (x y : ℕ) → (x ≡ 1 → ⊥) → (y ≡ 1 → ⊥) → cond b x y ≡ 1 → ⊥

@@ -2,20 +2,24 @@
 #![tactic(auto)]
 
 ghost use Rattle.std.specs.Prelude.{◌≡◌};
+ghost use Rattle.answers.specs.Results.{broken};
 ghost use Rattle.params_config.specs.Bounds.{ConfigBounds};
 ghost use Rattle.params_rules.specs.Rules.{extra_len, used, end_verdict, verdict};
 
+use answers::Rule;
 use footprint::Footprint;
 use params_config::Config;
 
-fn extra_len(k: Config) -> usize
+// The length of the extra field: mode bits, and two for the channel of the second plane.
+pub fn extra_len(k: Config) -> usize
     requires { ConfigBounds k }
     ensures { result ≡ extra_len k }
 {
     k.mode_bits + 2 * (k.planes - 1)
 }
 
-fn used_bits(k: Config) -> usize
+// All bits of a block but those of its endpoints.
+pub fn used_bits(k: Config) -> usize
     requires { ConfigBounds k }
     ensures { result ≡ used k }
 {
@@ -23,45 +27,35 @@ fn used_bits(k: Config) -> usize
 }
 
 // Tests rules 15 and 16, on the endpoint values.
-fn judge_ends(k: Config) -> usize
+fn judge_ends(k: Config) -> Result<(), Rule>
     requires { ConfigBounds k }
-    ensures { result ≡ end_verdict k }
+    ensures { broken result ≡ end_verdict k }
 {
     if 18 < k.values {
-        return answers::TOO_MANY_VALUES;
+        return Err(Rule::TooManyValues);
     }
     if 128 < (13 * k.values + 4) / 5 + used_bits(k) {
-        return answers::TOO_LITTLE_ROOM;
+        return Err(Rule::TooLittleRoom);
     }
-    answers::LEGAL
+    Ok(())
 }
 
-// Rules 11 to 16: the first that what k says breaks at the footprint f, and LEGAL if it breaks
-// none.
-pub fn judge(k: Config, f: Footprint) -> usize
+// The first of rules 11 to 16 that what k says breaks at the footprint f.
+pub fn judge(k: Config, f: Footprint) -> Result<(), Rule>
     requires { ConfigBounds k }
-    ensures { result ≡ verdict k f }
+    ensures { broken result ≡ verdict k f }
 {
-    if f.width < k.width {
-        return answers::GRID_TOO_LARGE;
-    }
-    if f.height < k.height {
-        return answers::GRID_TOO_LARGE;
+    if f.width < k.width || f.height < k.height {
+        return Err(Rule::GridTooLarge);
     }
     if 64 < k.width * k.height * k.planes {
-        return answers::TOO_MANY_WEIGHTS;
+        return Err(Rule::TooManyWeights);
     }
-    if k.weight_len < 24 {
-        return answers::WEIGHT_BITS;
+    if k.weight_len < 24 || 96 < k.weight_len {
+        return Err(Rule::WeightBits);
     }
-    if 96 < k.weight_len {
-        return answers::WEIGHT_BITS;
-    }
-    if k.planes == 2 {
-        if k.parts == 4 {
-            return answers::DUAL_PLANE_OF_FOUR;
-        }
-        return judge_ends(k);
+    if k.planes == 2 && k.parts == 4 {
+        return Err(Rule::DualPlaneOfFour);
     }
     judge_ends(k)
 }

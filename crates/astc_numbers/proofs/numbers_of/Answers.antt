@@ -1,7 +1,6 @@
 -- Each number fits in 32 bits, and the list is the definition's.
 use mathlib.Core.Path.{refl}
 use Rattle.astc_numbers.specs.Numbers.{numbers_of}
-use borrow.Author.Rules.{rules}
 use Rattle.astc_numbers.proofs.numbers_of.Goals as goal
 
 pub returns : goal.returns

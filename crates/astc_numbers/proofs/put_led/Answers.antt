@@ -1,10 +1,10 @@
--- `astc_numbers::put_led`: its three stores are a law of NumberLaws. Assumes nothing.
-use Rattle.astc_numbers.specs.NumberLaws.{second-place, three-stores}
-use borrow.Author.Rules.{rules}
+-- `astc_numbers::put_led`: its three numbers are the definition's. Assumes nothing.
+use Rattle.astc_numbers.specs.Numbers.{led_to}
+use Rattle.astc_numbers.specs.NumberLaws.{copied-put}
+use mathlib.Core.List.{[], ◌∷◌}
+use mathlib.Core.Path.{refl}
 use Rattle.astc_numbers.proofs.put_led.Goals as goal
 
-pub bounds-moved-1 : goal.bounds-moved-1
-bounds-moved-1 c = search second-place
-
 pub returns : goal.returns
-returns c = three-stores _ _ _ _
+unfolding led_to
+returns c = rw c.copy_from_slice.ensures.after (copied-put 3 (c.args.next ∷ c.args.painted ∷ c.args.bad ∷ []) _ refl c.requires)

@@ -1,22 +1,23 @@
 -- `astc_numbers::put_map`: each way out is a law of NumberLaws, and the map's numbers are small. Assumes nothing.
 use Rattle.block_map.specs.AnswerLaws.{map-small}
-use Rattle.astc_numbers.specs.NumberLaws.{refused, no_room, written}
+use Rattle.astc_numbers.specs.NumberLaws.{refused, no_room, written, nine, copied-put}
+use lib.ListN.{length}
+use mathlib.Core.Path.{ap, ◌∙◌}
 use native.Mathlib.Omega.{arith}
-use borrow.Author.Rules.{rules}
 use Rattle.astc_numbers.proofs.put_map.Goals as goal
 
-pub returns-then-m-ge-BLOCK_LENGTH : goal.returns-then-m-ge-BLOCK_LENGTH
-returns-then-m-ge-BLOCK_LENGTH c =
-    let both = refused _ _ c.block_map-m.ensures _ c.if-m-ge-BLOCK_LENGTH.true in record { value = both.0; map_after = both.1 }
+pub returns-then-m : goal.returns-then-m
+returns-then-m c =
+    let both = refused _ _ c.block_map-m.ensures _ c.if-m.true in record { value = both.0; map_after = both.1 }
 
 pub returns-then-map-lt9 : goal.returns-then-map-lt9
 returns-then-map-lt9 c =
-    let both = no_room _ _ c.block_map-m.ensures _ c.if-m-ge-BLOCK_LENGTH.false (omega (arith, c.if-map-lt9.true)) in record { value = both.0; map_after = both.1 }
+    let both = no_room _ _ c.block_map-m.ensures _ c.if-m.false (omega (arith, c.if-map-lt9.true)) in record { value = both.0; map_after = both.1 }
 
-pub numbers_of-n-requires : goal.numbers_of-n-requires
-numbers_of-n-requires c =
+pub numbers_of-requires : goal.numbers_of-requires
+numbers_of-requires c =
     rw c.block_map-m.ensures (map-small _ _)
 
 pub returns : goal.returns
 returns c =
-    let both = written _ _ c.block_map-m.ensures _ _ _ c.if-m-ge-BLOCK_LENGTH.false c.if-map-lt9.false c.numbers_of-n.ensures c.put_numbers.ensures in record { value = both.0; map_after = both.1 }
+    let both = written _ _ c.block_map-m.ensures _ _ _ c.if-m.false c.if-map-lt9.false c.numbers_of.ensures (rw c.copy_from_slice.ensures.after (copied-put 9 c.numbers_of.result _ (ap length c.numbers_of.ensures ∙ nine _) c.if-map-lt9.false)) in record { value = both.0; map_after = both.1 }

@@ -1,20 +1,21 @@
 -- `block_refusal::texel_refusal` meets its contract: each way out is a law of RefusalLaws. Assumes nothing.
+use Rattle.answers.specs.ResultLaws.{passed-refused, refused-some}
 use Rattle.block_refusal.specs.RefusalLaws.{first-accepted, texel-first, texel-0, texel-32}
 use Rattle.footprint.specs.Sides.{sides-of}
 use native.Mathlib.Omega.{arith}
 use mathlib.Core.Path.{sym, ◌∙◌}
 use Rattle.block_refusal.proofs.texel_refusal.Goals as goal
 
-pub returns-then-a-ne0 : goal.returns-then-a-ne0
-returns-then-a-ne0 c = texel-first _ _ _ _ c.first_refusal-a.ensures c.if-a-ne0.true
+pub returns-in_err-first_refusal : goal.returns-in_err-first_refusal
+returns-in_err-first_refusal c =
+    let e = c.in_err-first_refusal.field-0.0 in
+    passed-refused _ e c.from_residual.ensures.1 ∙ texel-first _ _ _ _ c.in_err-first_refusal.ensures (refused-some e)
 
 pub overflow_mul-f : goal.overflow_mul-f
-overflow_mul-f c = omega (arith, (sides-of _ (first-accepted _ _ (sym c.first_refusal-a.ensures ∙ c.if-a-ne0.false)).1).texels)
+overflow_mul-f c = omega (arith, (sides-of _ (first-accepted _ _ (sym c.in_ok-first_refusal.ensures)).1).texels)
 
 pub returns-then-t-f : goal.returns-then-t-f
-returns-then-t-f c =
-    texel-0 _ _ _ (sym c.first_refusal-a.ensures ∙ c.if-a-ne0.false) c.if-t-f.true
+returns-then-t-f c = texel-0 _ _ _ (sym c.in_ok-first_refusal.ensures) c.if-t-f.true
 
 pub returns : goal.returns
-returns c =
-    texel-32 _ _ _ (sym c.first_refusal-a.ensures ∙ c.if-a-ne0.false) c.if-t-f.false
+returns c = texel-32 _ _ _ (sym c.in_ok-first_refusal.ensures) c.if-t-f.false

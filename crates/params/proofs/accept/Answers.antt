@@ -5,4 +5,4 @@ use Rattle.params.proofs.accept.Goals as goal
 pub returns : goal.returns
 unfolding legal
 returns c =
-    simp (c.modes_of.ensures, c.channel_of.ensures, c.mode_code-code.ensures.0, c.extra_field-e.ensures.0, c.end_range-endpoint_range.ensures.0)
+    simp (c.modes_of.ensures, c.channel_of.ensures, c.mode_code-code.ensures.0, c.extra_field-e.ensures.0, c.end_range-endpoint_range.ensures.0, c.from.ensures)

@@ -4,4 +4,4 @@ use Rattle.params.proofs.extra_field.Goals as goal
 
 pub returns : goal.returns
 returns c =
-    extra-of _ _ _ c.requires.small c.getbits.ensures.0
+    extra-of _ _ _ c.args.k.legal.small (rw c.extra_len-len.ensures at c.getbits.ensures.0)

@@ -16,10 +16,10 @@ pub returns-in-2 : goal.returns-in-2
 unfolding grid_low bits_at
 returns-in-2 c = simp c.in-2.is
 
-pub returns-then-c-eq0 : goal.returns-then-c-eq0
+pub returns-in_default : goal.returns-in_default
 unfolding grid_low bits_at
-returns-then-c-eq0 c = let r = c.in_default.in_default-own.rest in simp (ne_eqb _ _ r.0.0.1, ne_eqb _ _ r.0.1, ne_eqb _ _ r.1, eq-eqb _ _ c.if-c-eq0.true)
+returns-in_default c = let r = c.in_default.in_default-own.rest in simp (ne_eqb _ _ r.0.0.1, ne_eqb _ _ r.0.1, ne_eqb _ _ r.1, eq-eqb _ _ c.if-c-eq0.true)
 
-pub returns-else-c-eq0 : goal.returns-else-c-eq0
+pub returns-in_default-2 : goal.returns-in_default-2
 unfolding grid_low bits_at
-returns-else-c-eq0 c = let r = c.in_default.in_default-own.rest in simp (ne_eqb _ _ r.0.0.1, ne_eqb _ _ r.0.1, ne_eqb _ _ r.1, ne_eqb _ _ c.if-c-eq0.false)
+returns-in_default-2 c = let r = c.in_default.in_default-own.rest in simp (ne_eqb _ _ r.0.0.1, ne_eqb _ _ r.0.1, ne_eqb _ _ r.1, ne_eqb _ _ c.if-c-eq0.false)

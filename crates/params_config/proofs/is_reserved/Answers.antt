@@ -13,6 +13,6 @@ pub returns-then-c-eq0-2 : goal.returns-then-c-eq0-2
 unfolding is_reserved bits_at
 returns-then-c-eq0-2 c = simp (div-one, ne_eqb _ _ c.if-c-eq0.false, eq-eqb _ _ c.if-c-eq0-2.true)
 
-pub returns : goal.returns
+pub returns-else-c-eq0-2 : goal.returns-else-c-eq0-2
 unfolding is_reserved bits_at
-returns c = simp (div-one, ne_eqb _ _ c.if-c-eq0.false, ne_eqb _ _ c.if-c-eq0-2.false)
+returns-else-c-eq0-2 c = simp (div-one, ne_eqb _ _ c.if-c-eq0.false, ne_eqb _ _ c.if-c-eq0-2.false)

@@ -5,7 +5,7 @@ use Rattle.params_config.specs.Bounds.{parts_is}
 use Rattle.params_config.proofs.read_partitions.Goals as goal
 
 pub one_partition-requires : goal.one_partition-requires
-one_partition-requires c = sym (parts_is _) ∙ c.if-parts-eq1.true
+one_partition-requires c = sym (parts_is _) ∙ c.in-1.is
 
 pub several_partitions-requires : goal.several_partitions-requires
 several_partitions-requires c = (parts_is _, (omega arith, omega arith))

@@ -5,4 +5,4 @@ use Rattle.params_map.proofs.legal_map.Goals as goal
 pub returns : goal.returns
 unfolding legal_map
 returns c =
-    simp (c.range_bits.ensures, c.top_of.ensures, c.end_range-range.ensures.0)
+    simp (c.range_bits.ensures, c.top_of.ensures, c.extra_len-extra.ensures, c.end_range-range.ensures.0, c.from.ensures)

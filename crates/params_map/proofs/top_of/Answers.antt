@@ -1,28 +1,31 @@
--- `params_map::top_of` meets its contract: the closed form was tested at all 21 ranges. Assumes nothing.
-use Prim.Native.Nat.{◌/◌, ◌-◌}
-use Rattle.params_map.specs.TopLaws.{top-0, top-plain, top-trits, top-quints, shifted}
+-- `params_map::top_of` meets its contract: the largest value by the kind of the range, tested at all 21 ranges. Assumes nothing.
+use Rattle.params_map.specs.TopLaws.{top-of-kind, kept-of-kind, bits-of-range}
 use native.Mathlib.Omega.{arith}
 use Rattle.params_map.proofs.top_of.Goals as goal
 
-pub returns-then-q-eq0 : goal.returns-then-q-eq0
-returns-then-q-eq0 c = search top-0
+pub overflow_shl-result : goal.overflow_shl-result
+overflow_shl-result c = omega (arith, bits-of-range _ c.requires _ c.range_of-r.ensures)
 
 pub overflow_sub-result : goal.overflow_sub-result
-overflow_sub-result c = (shifted (c.args.q / 3) (omega arith)).0
+overflow_sub-result c = kept-of-kind _ c.requires _ c.range_of-r.ensures _ c.in-Plain.is
 
-pub returns-then-m-eq2 : goal.returns-then-m-eq2
-returns-then-m-eq2 c = search top-plain
+pub returns-in-Plain : goal.returns-in-Plain
+returns-in-Plain c = top-of-kind _ c.requires _ c.range_of-r.ensures _ c.in-Plain.is
 
-pub overflow_sub-result-then-m-eq1 : goal.overflow_sub-result-then-m-eq1
-overflow_sub-result-then-m-eq1 c =
-    (shifted (c.args.q / 3) (omega arith)).1.0
+pub overflow_shl-result-in-Trits : goal.overflow_shl-result-in-Trits
+overflow_shl-result-in-Trits c = omega (arith, bits-of-range _ c.requires _ c.range_of-r.ensures)
 
-pub overflow_sub-result-else-m-eq1-2 : goal.overflow_sub-result-else-m-eq1-2
-overflow_sub-result-else-m-eq1-2 c =
-    (shifted (c.args.q / 3 - 1) (omega arith)).1.1
+pub overflow_sub-result-in-Trits : goal.overflow_sub-result-in-Trits
+overflow_sub-result-in-Trits c = kept-of-kind _ c.requires _ c.range_of-r.ensures _ c.in-Trits.is
 
-pub returns-then-m-eq1 : goal.returns-then-m-eq1
-returns-then-m-eq1 c = search top-trits
+pub returns-in-Trits : goal.returns-in-Trits
+returns-in-Trits c = top-of-kind _ c.requires _ c.range_of-r.ensures _ c.in-Trits.is
 
-pub returns-else-m-eq1 : goal.returns-else-m-eq1
-returns-else-m-eq1 c = search top-quints
+pub overflow_shl-result-in-Quints : goal.overflow_shl-result-in-Quints
+overflow_shl-result-in-Quints c = omega (arith, bits-of-range _ c.requires _ c.range_of-r.ensures)
+
+pub overflow_sub-result-in-Quints : goal.overflow_sub-result-in-Quints
+overflow_sub-result-in-Quints c = kept-of-kind _ c.requires _ c.range_of-r.ensures _ c.in-Quints.is
+
+pub returns-in-Quints : goal.returns-in-Quints
+returns-in-Quints c = top-of-kind _ c.requires _ c.range_of-r.ensures _ c.in-Quints.is

@@ -2,8 +2,8 @@
 use Rattle.params_modes.specs.ModeLaws.{class-alone, class-based}
 use Rattle.params_modes.proofs.class_of.Goals as goal
 
-pub returns-then-base-eq0 : goal.returns-then-base-eq0
-returns-then-base-eq0 c = class-alone _ _ c.args.i c.requires.0 c.if-base-eq0.true
+pub returns-then-m-eq0 : goal.returns-then-m-eq0
+returns-then-m-eq0 c = class-alone _ _ c.args.i c.args.m.coded c.if-m-eq0.true
 
-pub returns-else-base-eq0 : goal.returns-else-base-eq0
-returns-else-base-eq0 c = class-based _ _ c.args.i c.requires.0 c.if-base-eq0.false
+pub returns-else-m-eq0 : goal.returns-else-m-eq0
+returns-else-m-eq0 c = class-based _ _ c.args.i c.args.m.coded c.if-m-eq0.false

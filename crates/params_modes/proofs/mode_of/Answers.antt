@@ -2,8 +2,8 @@
 use Rattle.params_modes.specs.ModeLaws.{mode-alone, mode-based}
 use Rattle.params_modes.proofs.mode_of.Goals as goal
 
-pub returns-then-base-eq0 : goal.returns-then-base-eq0
-returns-then-base-eq0 c = mode-alone _ _ c.args.i c.requires.0 c.args.parts c.if-base-eq0.true
+pub returns-then-m-eq0 : goal.returns-then-m-eq0
+returns-then-m-eq0 c = mode-alone _ _ c.args.i c.args.m.coded c.args.m.parts c.if-m-eq0.true
 
 pub returns : goal.returns
-returns c = mode-based _ _ c.args.i c.requires.0 c.args.parts _ c.if-base-eq0.false c.class_of.ensures
+returns c = mode-based _ _ c.args.i c.args.m.coded c.args.m.parts _ c.if-m-eq0.false c.class_of.ensures

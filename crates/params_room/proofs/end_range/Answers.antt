@@ -6,10 +6,8 @@ use mathlib.Core.Path.{◌≡◌, ap, ◌∙◌}
 use native.Mathlib.Omega.{arith}
 use Rattle.params_room.proofs.end_range.Goals as goal
 
-pub widest_range-requires : goal.widest_range-requires
-widest_range-requires c = rw c.used_bits.ensures c.requires.roomy
-
 pub returns : goal.returns
 returns c =
-    let e : 128 - (128 - c.used_bits.result) ≡ used c.args.k = omega (arith, c.requires.room, c.used_bits.ensures) in
-    (c.widest_range.ensures.0 ∙ ap (widest 16 c.args.k.values) e, c.widest_range.ensures.1)
+    let k = c.args.k in
+    let e : 128 - (128 - c.used_bits.result) ≡ used k.config = omega (arith, k.legal.room, c.used_bits.ensures) in
+    (c.widest_range.ensures.0 ∙ ap (widest 16 k.config.values) e, c.widest_range.ensures.1)

@@ -6,9 +6,6 @@ use mathlib.Core.Path.{ap}
 use native.Mathlib.Omega.{arith}
 use Rattle.params_room.proofs.whole_bits.Goals as goal
 
-pub overflow_mul-result : goal.overflow_mul-result
-overflow_mul-result c = omega (arith, mul-le-mul c.requires.block c.inverse.ensures.1)
-
 pub returns : goal.returns
 unfolding whole_bits
 returns c =
