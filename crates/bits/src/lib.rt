@@ -1,11 +1,15 @@
-// A block of 128 bits, and its fields.
+// A block of 128 bits, and its fields. These are functions and not methods of `Block`, since
+// docs/PROMISES.md has their names. Parts of a word that share no bit are joined by a sum, since
+// the definitions of numbers in specs/ are sums.
 #![tactic(auto)]
 
 ghost use Rattle.std.specs.Prelude.{◌≡◌, ◌/◌, ◌%◌, ◌^◌, ◌≤◌, ◌<◌};
 ghost use Rattle.bits.specs.Bits.{bits_at};
 ghost use Rattle.bits.specs.Blocks.{value_of};
 
-#[derive(Clone, Copy)]
+// A block as two words, as the original has it, and no `u128`: the definition `value_of` is stated
+// over the two, and so are theorems that speak of a block.
+#[derive(Clone, Copy, Debug, PartialEq, Eq, Hash)]
 pub struct Block {
     pub lo: u64,
     pub hi: u64,

@@ -2,10 +2,9 @@
 -- Assumes nothing.
 use Rattle.std.specs.Prelude.{◌≡◌, refl, ℕ, zero, suc, ◌+◌, ◌*◌, ◌/◌, ◌%◌, ◌^◌, ◌≤◌, ◌<◌, T, ltb}
 use Rattle.std.proofs.Math.Path.{sym, ap}
-use Rattle.std.proofs.Common.{◌∙◌, lt_of_lt_of_le, lt_of_le_of_lt, le_trans, le_of_lt, mod-lt, mul-le-mul_right, zero-add, one-mul, suc-mul, div-one, arith, ltb→lt, lit<, lit≤, Fits}
+use Rattle.std.proofs.Common.{◌∙◌, mul-le-mul_right, zero-add, one-mul, suc-mul, div-one, arith, lit<, lt_of_lt_of_le, lt_of_le_of_lt, le_trans, le_of_lt, mod-lt, ltb→lt, lit≤, Fits}
 use Rattle.std.proofs.Math.Nat.{zero-mul, sub_self, add-sub_cancel_left}
 use Rattle.std.proofs.Math.Pow.{shr-shr}
-use Rattle.std.specs.Int.{w64}
 use Rattle.std.proofs.Math.ListN.{get_or}
 use Rattle.bits.specs.Bits.{bits_at}
 use Rattle.bits.specs.BitLaws.{bits-zero, locality}
@@ -16,43 +15,7 @@ use Rattle.sequence_groups.specs.DigitLaws.{under, get_or-under, digit_at}
 use Rattle.sequence_ranges.specs.declared.Kind.{Kind}
 use Rattle.sequence_ranges.specs.declared.Kind.TheVariants.{Plain, Trits, Quints}
 use Rattle.sequence_ranges.specs.declared.Range.{Range}
-
--- ---- what the code asks at each value: the places of a group that starts at i stand in the output, and a value's bits are fewer than a word's
-
-pub near : (i j : ℕ) → i ≤ 64 → T (ltb j 8) → i + j < 72
-near i j h t = omega (arith, ltb→lt j 8 t)
-
-pub near_fits : (i j : ℕ) → i ≤ 64 → T (ltb j 8) → Fits w64 (i + j)
-near_fits i j h t = record { fits = lt_of_lt_of_le (near i j h t) (lit≤ tt) }
-
--- the bits that are gathered into a place of the tables: a part, and the sums of the parts
-pub part-fits : (x n k : ℕ) → 0 < n → n * k ≤ 256 → Fits w64 (x % n * k)
-part-fits x n k h l = record { fits = lt_of_le_of_lt (le_trans (mul-le-mul_right k (le_of_lt (mod-lt x h))) l) (lit< tt) }
-
-pub small-fits : (n : ℕ) → n < 256 → Fits w64 n
-small-fits n h = record { fits = lt_of_lt_of_le h (lit≤ tt) }
-
--- two bytes of each entry
-pub twice-fits : (n : ℕ) → n < 256 → Fits w64 (n * 2)
-twice-fits n h = record { fits = lt_of_le_of_lt (mul-le-mul_right 2 (le_of_lt h)) (lit< tt) }
-
-pub trits-2 : (a b : ℕ) → a % 4 + b % 4 * 4 < 256
-trits-2 a b = omega arith
-
-pub trits-3 : (a b c : ℕ) → a % 4 + b % 4 * 4 + c % 2 * 16 < 256
-trits-3 a b c = omega arith
-
-pub trits-4 : (a b c d : ℕ) → a % 4 + b % 4 * 4 + c % 2 * 16 + d % 4 * 32 < 256
-trits-4 a b c d = omega arith
-
-pub trits-5 : (a b c d e : ℕ) → a % 4 + b % 4 * 4 + c % 2 * 16 + d % 4 * 32 + e % 2 * 128 < 256
-trits-5 a b c d e = omega arith
-
-pub quints-2 : (a b : ℕ) → a % 8 + b % 4 * 8 < 256
-quints-2 a b = omega arith
-
-pub quints-3 : (a b c : ℕ) → a % 8 + b % 4 * 8 + c % 4 * 32 < 128
-quints-3 a b c = omega arith
+use Rattle.std.specs.Int.{w64}
 
 -- ---- what the code's shifts make
 
@@ -106,6 +69,41 @@ module _ (r : Range) (d i e : ℕ) (p : e ≡ packed (digits_of r.kind r.bits d)
       rw (add-sub_cancel_left i j, down_is r.bits d j, shr-shr d (j * r.bits) (get_or (gaps r.kind) j 0), p, digit_at r.kind r.bits d j)
 
 -- ---- a group depends on its own bits alone
+
+pub near : (i j : ℕ) → i ≤ 64 → T (ltb j 8) → i + j < 72
+near i j h t = omega (arith, ltb→lt j 8 t)
+
+pub near_fits : (i j : ℕ) → i ≤ 64 → T (ltb j 8) → Fits w64 (i + j)
+near_fits i j h t = record { fits = lt_of_lt_of_le (near i j h t) (lit≤ tt) }
+
+-- the bits that are gathered into a place of the tables: a part, and the sums of the parts
+pub part-fits : (x n k : ℕ) → 0 < n → n * k ≤ 256 → Fits w64 (x % n * k)
+part-fits x n k h l = record { fits = lt_of_le_of_lt (le_trans (mul-le-mul_right k (le_of_lt (mod-lt x h))) l) (lit< tt) }
+
+pub small-fits : (n : ℕ) → n < 256 → Fits w64 n
+small-fits n h = record { fits = lt_of_lt_of_le h (lit≤ tt) }
+
+-- two bytes of each entry
+pub twice-fits : (n : ℕ) → n < 256 → Fits w64 (n * 2)
+twice-fits n h = record { fits = lt_of_le_of_lt (mul-le-mul_right 2 (le_of_lt h)) (lit< tt) }
+
+pub trits-2 : (a b : ℕ) → a % 4 + b % 4 * 4 < 256
+trits-2 a b = omega arith
+
+pub trits-3 : (a b c : ℕ) → a % 4 + b % 4 * 4 + c % 2 * 16 < 256
+trits-3 a b c = omega arith
+
+pub trits-4 : (a b c d : ℕ) → a % 4 + b % 4 * 4 + c % 2 * 16 + d % 4 * 32 < 256
+trits-4 a b c d = omega arith
+
+pub trits-5 : (a b c d e : ℕ) → a % 4 + b % 4 * 4 + c % 2 * 16 + d % 4 * 32 + e % 2 * 128 < 256
+trits-5 a b c d e = omega arith
+
+pub quints-2 : (a b : ℕ) → a % 8 + b % 4 * 8 < 256
+quints-2 a b = omega arith
+
+pub quints-3 : (a b c : ℕ) → a % 8 + b % 4 * 8 + c % 4 * 32 < 128
+quints-3 a b c = omega arith
 
 pub field-same : (d d' n s k : ℕ) → d % 2 ^ n ≡ d' % 2 ^ n → s + k ≤ n → bits_at d s k ≡ bits_at d' s k
 field-same d d' n s k e h = part d ∙ ap (λ (x : ℕ). bits_at x s k) e ∙ sym (part d')

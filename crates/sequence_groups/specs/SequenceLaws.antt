@@ -1,6 +1,6 @@
 -- The laws of decoded sequences.
 -- Assumes nothing.
-use Rattle.std.specs.Prelude.{◌≡◌, List, ℕ, ◌*◌, ◌^◌, ◌≤◌, ◌<◌, ltb, length, get_or}
+use Rattle.std.specs.Prelude.{◌≡◌, ℕ, ◌*◌, ◌^◌, ◌≤◌, ◌<◌, ltb, length, get_or, List}
 use Rattle.std.proofs.Math.Path.{ap}
 use Rattle.std.proofs.Common.{◌∙◌, zero-add, arith, pow_pos, lit<, lt-ltb, le-ltb}
 use Rattle.std.proofs.Math.Bool.{cond}
@@ -8,17 +8,25 @@ use Rattle.std.proofs.Math.Nat.{mul-pos}
 use Rattle.std.proofs.Math.Decide.{dec_lt}
 use Rattle.std.proofs.Math.Arith.{digits_lt}
 use Rattle.std.proofs.Math.ListN.{get_or-eq_default}
-use Rattle.laws.specs.Numbers.{NoneBelow, last_arm}
 use Rattle.laws.specs.Lists.{length-list_of, get_or-list_of}
 use Rattle.bits.specs.BitLaws.{bits-lt}
-use Rattle.sequence_ranges.specs.Ranges.{range, base, levels}
+use Rattle.sequence_ranges.specs.Ranges.{base, levels, range}
 use Rattle.sequence_groups.specs.Sequence.{value_in, value_at, values_of}
 use Rattle.sequence_groups.specs.DigitLaws.{digit_lt}
 use Rattle.sequence_ranges.specs.declared.Kind.{Kind}
 use Rattle.sequence_ranges.specs.declared.Kind.TheVariants.{Plain, Trits, Quints}
 use Rattle.sequence_ranges.specs.declared.Range.{Range}
+use Rattle.laws.specs.Numbers.{NoneBelow, last_arm}
 
 -- ---- a decoded sequence
+
+-- an arm of its own, and the last
+module _ (k : Kind) (b m w n : ℕ) (out : List ℕ) where
+  pub values-arm : out ≡ values_of (range k m) w n → b ≡ m → out ≡ values_of (range k b) w n
+  values-arm h e = rw e h
+
+  pub values-last : out ≡ values_of (range k m) w n → b ≤ m → NoneBelow m b → out ≡ values_of (range k b) w n
+  values-last h l r = values-arm h (last_arm m b l r)
 
 base-pos : (k : Kind) → 0 < base k
 base-pos Plain = lit< tt
@@ -62,13 +70,3 @@ module _ (r : Range) (w n : ℕ) where
       entry (yes l) (yes h) = rw (values-before i h l) (value-lt r w i)
       entry (yes l) (no h) = rw (get_or-eq_default (values_of r w n) 0 {n = i} (rw length-values (omega arith))) some
       entry (no l) h = rw (values-past i (omega arith)) some
-
--- ---- a match on the number of bits, each arm of which hands it on as a constant
-
--- an arm of its own, and the last
-module _ (k : Kind) (b m w n : ℕ) (out : List ℕ) where
-  pub values-arm : out ≡ values_of (range k m) w n → b ≡ m → out ≡ values_of (range k b) w n
-  values-arm h e = rw e h
-
-  pub values-last : out ≡ values_of (range k m) w n → b ≤ m → NoneBelow m b → out ≡ values_of (range k b) w n
-  values-last h l r = values-arm h (last_arm m b l r)

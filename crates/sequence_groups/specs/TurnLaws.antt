@@ -1,9 +1,8 @@
 -- The laws of a loop over groups: what holds at each turn, from the first to the last, and what the code asks there.
 -- Assumes nothing.
-use Rattle.std.specs.Prelude.{◌≡◌, List, ℕ, ◌+◌, ◌*◌, ◌-◌, ◌/◌, ◌%◌, ◌^◌, ◌≤◌, ◌<◌, T, ltb, replicate}
-use Rattle.std.proofs.Common.{sym, ap, ◌∙◌, zero-le, lt_of_lt_of_le, le_of_lt, mul-le-mul_left, add-mul, zero-mul, one-mul, div-one, mul_assoc, arith, pow-add, shr-shr, ltb→lt, lit≤, Fits}
+use Rattle.std.specs.Prelude.{◌≡◌, List, ℕ, ◌+◌, ◌*◌, ◌-◌, ◌/◌, ◌%◌, ◌^◌, ◌≤◌, ◌<◌, replicate, T, ltb}
+use Rattle.std.proofs.Common.{sym, ap, ◌∙◌, zero-le, le_of_lt, add-mul, zero-mul, one-mul, div-one, mul_assoc, arith, pow-add, shr-shr, lit≤, lt_of_lt_of_le, mul-le-mul_left, ltb→lt, Fits}
 use Rattle.std.proofs.Math.Nat.{zero-div, zero-mod, mod-mod, mul-add-mod_self_right}
-use Rattle.std.specs.Int.{w64}
 use Rattle.laws.specs.Lists.{put, put-none, put_same, put_next, put-cleared}
 use Rattle.bits.specs.Bits.{bits_at}
 use Rattle.bits.specs.Blocks.{value_of}
@@ -14,31 +13,7 @@ use Rattle.sequence_ranges.specs.declared.Kind.TheVariants.{Plain, Trits, Quints
 use Rattle.sequence_ranges.specs.declared.Range.{Range}
 use Rattle.sequence_groups.specs.Sequence.{size_of, value_in, group_of, value_at, values_of, group_from}
 use Rattle.sequence_groups.specs.GroupLaws.{value_same}
-
--- ---- what the code asks at each turn: a group starts in the output, its bits are a shift of a word, and the end is nearer after it
-
-pub starts : (i n : ℕ) → i < n → n ≤ 64 → i ≤ 64
-starts i n h l = omega arith
-
-pub next_fits : (i n k : ℕ) → i < n → n ≤ 64 → T (ltb k 8) → Fits w64 (i + k)
-next_fits i n k h l t = record { fits = lt_of_lt_of_le {m = 72} (omega (arith, ltb→lt k 8 t)) (lit≤ tt) }
-
-pub nearer : (i n k : ℕ) → i < n → T (ltb 0 k) → n - (i + k) < n - i
-nearer i n k h t = omega (arith, ltb→lt 0 k t)
-
-pub more : (a s : ℕ) → T (ltb 0 s) → 0 < a + s
-more a s t = omega (arith, ltb→lt 0 s t)
-
--- p values of b bits each, and s bits that they share
-module _ (p m s b : ℕ) (h : b ≤ m) (t : T (ltb (p * m + s) 64)) where
-  pub size-lt : p * b + s < 64
-  size-lt = omega (arith, mul-le-mul_left p h, ltb→lt (p * m + s) 64 t)
-
-  pub bits_fit : Fits w64 (p * b)
-  bits_fit = record { fits = lt_of_lt_of_le {m = 64} (omega (arith, mul-le-mul_left p h, ltb→lt (p * m + s) 64 t)) (lit≤ tt) }
-
-  pub size_fits : Fits w64 (p * b + s)
-  size_fits = record { fits = lt_of_lt_of_le size-lt (lit≤ tt) }
+use Rattle.std.specs.Int.{w64}
 
 -- ---- a turn: what is left of w, from its group g on, has the words hi and lo
 
@@ -84,6 +59,29 @@ unfolding values_of
 ended r w n i s t l m p q = q ∙ ap (put (λ (k : ℕ). 0) n (n + 5)) p ∙ put-cleared (value_at r w) n i (n + 5) 72 l m
 
 -- ---- what holds before a turn: the values before i are in their places, and v is what is left of the sequence w from value i on, whose group starts there
+
+pub starts : (i n : ℕ) → i < n → n ≤ 64 → i ≤ 64
+starts i n h l = omega arith
+
+pub next_fits : (i n k : ℕ) → i < n → n ≤ 64 → T (ltb k 8) → Fits w64 (i + k)
+next_fits i n k h l t = record { fits = lt_of_lt_of_le {m = 72} (omega (arith, ltb→lt k 8 t)) (lit≤ tt) }
+
+pub nearer : (i n k : ℕ) → i < n → T (ltb 0 k) → n - (i + k) < n - i
+nearer i n k h t = omega (arith, ltb→lt 0 k t)
+
+pub more : (a s : ℕ) → T (ltb 0 s) → 0 < a + s
+more a s t = omega (arith, ltb→lt 0 s t)
+
+-- p values of b bits each, and s bits that they share
+module _ (p m s b : ℕ) (h : b ≤ m) (t : T (ltb (p * m + s) 64)) where
+  pub size-lt : p * b + s < 64
+  size-lt = omega (arith, mul-le-mul_left p h, ltb→lt (p * m + s) 64 t)
+
+  pub bits_fit : Fits w64 (p * b)
+  bits_fit = record { fits = lt_of_lt_of_le {m = 64} (omega (arith, mul-le-mul_left p h, ltb→lt (p * m + s) 64 t)) (lit≤ tt) }
+
+  pub size_fits : Fits w64 (p * b + s)
+  size_fits = record { fits = lt_of_lt_of_le size-lt (lit≤ tt) }
 
 pub record Turned (r : Range) (w n i v : ℕ) (out : List ℕ) : Type 0 where
   pub near : i ≤ n + 5

@@ -1,96 +1,66 @@
 // The values of an integer sequence, which is given as one number: with trits or with quints, group
-// after group, or plain.
+// after group, or plain. Each function asks that `out` is all 0, that the range has at most `most`
+// bits and that there are at most 64 values. No type holds this: the definition `range` makes
+// ranges of any number of bits, and docs/PROMISES.md has `out` and n as a plain array and a number.
 #![tactic(auto)]
 
 ghost use Rattle.std.specs.Prelude.{◌≡◌, ◌≤◌, replicate};
 ghost use Rattle.bits.specs.Blocks.{value_of};
 ghost use Rattle.sequence_ranges.specs.Ranges.{range, most};
-ghost use Rattle.sequence_ranges.specs.Digits.{trit_table, quint_table};
 ghost use Rattle.sequence_groups.specs.Sequence.{values_of};
 
+mod packing;
+
 use bits::Block;
+use packing::{Packing, Plain, Quints, Trits};
 use sequence_ranges::{Kind, Range};
 
-// Puts the n values of the sequence w with their trits, five at a time.
-fn decode_trits(out: &mut [u8; 72], trits: &[u16; 256], w: Block, b: usize, n: usize)
-    requires { (out.old ≡ replicate 72 0) × (trits.now ≡ trit_table) × (b ≤ 6) × (n ≤ 64) }
-    ensures { out.new ≡ values_of (range Kind.Trits b) (value_of w) n }
+// Puts the n values of the sequence w, one group after the other. Values of groups of no bits are
+// 0, which out already holds. It is compiled into each arm of `decode_packed_by`.
+#[inline(always)]
+fn decode_packed<P: Packing>(out: &mut [u8; 72], w: Block, b: usize, n: usize)
+    requires { (out.old ≡ replicate 72 0) × (b ≤ most P.kind) × (n ≤ 64) }
+    ensures { out.new ≡ values_of (range P.kind b) (value_of w) n }
 {
+    let size = P::size(b);
+    if size == 0 {
+        return;
+    }
     let mut s = w;
-    let mut i = 0;
-    while i < n {
-        sequence_groups::put_trits(out, i, trits, b, s.lo);
-        s = bits::skip(s, 5 * b + 8);
-        i += 5;
+    for i in (0..n).step_by(P::VALUES) {
+        P::put(out, i, b, s.lo);
+        s = bits::skip(s, size);
     }
     sequence_groups::clear(out, n);
 }
 
-// Puts the n values of the sequence w with their quints, three at a time.
-fn decode_quints(out: &mut [u8; 72], quints: &[u16; 128], w: Block, b: usize, n: usize)
-    requires { (out.old ≡ replicate 72 0) × (quints.now ≡ quint_table) × (b ≤ 5) × (n ≤ 64) }
-    ensures { out.new ≡ values_of (range Kind.Quints b) (value_of w) n }
-{
-    let mut s = w;
-    let mut i = 0;
-    while i < n {
-        sequence_groups::put_quints(out, i, quints, b, s.lo);
-        s = bits::skip(s, 3 * b + 7);
-        i += 3;
-    }
-    sequence_groups::clear(out, n);
-}
-
-// Puts the values with trits. Each arm knows the number of bits, so that its shifts are by
+// Puts the n values of the sequence w. Each arm knows the number of bits, so that its shifts are by
 // constants, which are fewer instructions.
-fn decode_trits_by(out: &mut [u8; 72], trits: &[u16; 256], w: Block, b: usize, n: usize)
-    requires { (out.old ≡ replicate 72 0) × (trits.now ≡ trit_table) × (b ≤ 6) × (n ≤ 64) }
-    ensures { out.new ≡ values_of (range Kind.Trits b) (value_of w) n }
+fn decode_packed_by<P: Packing>(out: &mut [u8; 72], w: Block, b: usize, n: usize)
+    requires { (out.old ≡ replicate 72 0) × (b ≤ most P.kind) × (n ≤ 64) }
+    ensures { out.new ≡ values_of (range P.kind b) (value_of w) n }
 {
     match b {
-        0 => decode_trits(out, trits, w, 0, n),
-        1 => decode_trits(out, trits, w, 1, n),
-        2 => decode_trits(out, trits, w, 2, n),
-        3 => decode_trits(out, trits, w, 3, n),
-        4 => decode_trits(out, trits, w, 4, n),
-        5 => decode_trits(out, trits, w, 5, n),
-        _ => decode_trits(out, trits, w, 6, n),
-    }
-}
-
-// Puts the values with quints. Each arm knows the number of bits.
-fn decode_quints_by(out: &mut [u8; 72], quints: &[u16; 128], w: Block, b: usize, n: usize)
-    requires { (out.old ≡ replicate 72 0) × (quints.now ≡ quint_table) × (b ≤ 5) × (n ≤ 64) }
-    ensures { out.new ≡ values_of (range Kind.Quints b) (value_of w) n }
-{
-    match b {
-        0 => decode_quints(out, quints, w, 0, n),
-        1 => decode_quints(out, quints, w, 1, n),
-        2 => decode_quints(out, quints, w, 2, n),
-        3 => decode_quints(out, quints, w, 3, n),
-        4 => decode_quints(out, quints, w, 4, n),
-        _ => decode_quints(out, quints, w, 5, n),
+        0 => decode_packed::<P>(out, w, 0, n),
+        1 => decode_packed::<P>(out, w, 1, n),
+        2 => decode_packed::<P>(out, w, 2, n),
+        3 => decode_packed::<P>(out, w, 3, n),
+        4 => decode_packed::<P>(out, w, 4, n),
+        5 => decode_packed::<P>(out, w, 5, n),
+        6 => decode_packed::<P>(out, w, 6, n),
+        7 => decode_packed::<P>(out, w, 7, n),
+        _ => decode_packed::<P>(out, w, 8, n),
     }
 }
 
 // Puts the n values of the sequence w, of any range, into out, which is all 0.
-pub fn decode(
-    out: &mut [u8; 72],
-    trits: &[u16; 256],
-    quints: &[u16; 128],
-    w: Block,
-    r: Range,
-    n: usize,
-)
-    requires { (out.old ≡ replicate 72 0) × (trits.now ≡ trit_table) × (quints.now ≡ quint_table) ×
-        (r.bits ≤ most r.kind) × (n ≤ 64) }
+pub fn decode(out: &mut [u8; 72], w: Block, r: Range, n: usize)
+    requires { (out.old ≡ replicate 72 0) × (r.bits ≤ most r.kind) × (n ≤ 64) }
     ensures { out.new ≡ values_of r (value_of w) n }
 {
-    let k = r.kind;
-    let b = r.bits;
-    match k {
-        Kind::Plain => sequence_plain::decode_plain_by(out, w, b, n),
-        Kind::Trits => decode_trits_by(out, trits, w, b, n),
-        Kind::Quints => decode_quints_by(out, quints, w, b, n),
+    match r.kind {
+        Kind::Plain => decode_packed_by::<Plain>(out, w, r.bits, n),
+        Kind::Trits => decode_packed_by::<Trits>(out, w, r.bits, n),
+        Kind::Quints => decode_packed_by::<Quints>(out, w, r.bits, n),
     }
 }

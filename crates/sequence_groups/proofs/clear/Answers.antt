@@ -1,40 +1,21 @@
--- Five places are filled with 0, one after the other.
-use mathlib.Core.Path.{refl}
-use Prim.Native.Nat.{ℕ}
-use Rattle.laws.specs.Lists.{put_first, put_step}
-use native.Mathlib.Nat.{lt_of_le_of_lt}
-use lib.Dec.{lit<}
-use Rattle.sequence_groups.specs.GroupLaws.{near, near_fits}
+-- What the five zeros are written over is the output with zeros in those places.
+use Rattle.std.proofs.Common.{◌≡◌, ◌∙◌, sym, refl, List, ℕ, zero, suc, ◌+◌, ◌-◌, ◌≤◌, ◌<◌, length, replicate, take, drop, add-one, take-append-drop, append-nil, length-drop, length-take, rules, arith}
+use Rattle.std.proofs.lemmas.Slice.{put_mid-paste}
+use Rattle.std.proofs.lemmas.List.Edits.{fill_from_more}
+use Rattle.std.proofs.Math.Seq.{paste}
+use Rattle.laws.specs.Lists.{put, put-none, put_step}
 use Rattle.sequence_groups.proofs.clear.Goals as goal
 
-pub bounds-out-n : goal.bounds-out-n
-bounds-out-n c = lt_of_le_of_lt c.requires (lit< tt)
-
-pub overflow_add-out : goal.overflow_add-out
-overflow_add-out c = near_fits _ _ c.requires tt
-
-pub bounds-out-n-2 : goal.bounds-out-n-2
-bounds-out-n-2 c = near _ _ c.requires tt
-
-pub overflow_add-out-2 : goal.overflow_add-out-2
-overflow_add-out-2 c = near_fits _ _ c.requires tt
-
-pub bounds-out-n-3 : goal.bounds-out-n-3
-bounds-out-n-3 c = near _ _ c.requires tt
-
-pub overflow_add-out-3 : goal.overflow_add-out-3
-overflow_add-out-3 c = near_fits _ _ c.requires tt
-
-pub bounds-out-n-4 : goal.bounds-out-n-4
-bounds-out-n-4 c = near _ _ c.requires tt
-
-pub overflow_add-out-4 : goal.overflow_add-out-4
-overflow_add-out-4 c = near_fits _ _ c.requires tt
-
-pub bounds-out-n-5 : goal.bounds-out-n-5
-bounds-out-n-5 c = near _ _ c.requires tt
+pasted : (o n : ℕ) (s : List ℕ) → o + n ≤ length s → paste s o (replicate n 0) n ≡ put (λ (k : ℕ). 0) o (o + n) s
+pasted o zero s h = let e : o + 0 ≡ o = omega arith in rw (e, append-nil) (take-append-drop o s ∙ put-none (λ (k : ℕ). 0) o s)
+pasted o (suc n) s h =
+    let l : o + n < length s = omega arith in
+    rw add-one at (sym (fill_from_more s o n 0 l)) ∙ put_step (λ (k : ℕ). 0) o n s _ 0 (pasted o n s (omega arith)) refl
 
 pub returns : goal.returns
-returns c = let n = c.args.n in
-    let z : ℕ → ℕ = λ (k : ℕ). 0 in
-    put_step z n 4 _ _ 0 (put_step z n 3 _ _ 0 (put_step z n 2 _ _ 0 (put_step z n 1 _ _ 0 (put_first z n _ 0 refl) refl) refl) refl) refl
+returns c =
+    let a = c.args in
+    let n : a.n + 5 - a.n ≡ 5 = omega arith in
+    let l : length (take (a.n + 5 - a.n) (drop a.n a.out.now)) ≡ 5 = simp (length-take, length-drop) (omega arith) in
+    put_mid-paste a.n _ a.out.now _ (replicate 5 0) 5 (rw l at (c.fill.ensures.after (λ y e. search rules))) (sym n) refl
+    ∙ pasted a.n 5 a.out.now (omega arith)

@@ -3,6 +3,7 @@ use mathlib.Core.Path.{◌≡◌, refl, ap, ◌∙◌}
 use Prim.Native.Nat.{ℕ, ◌+◌, ◌-◌, ◌/◌, ◌%◌, ◌<◌}
 use mathlib.Core.Bool.{Bool, cond}
 use lib.Dec.{T, eqb, eqb→eq}
+use native.Mathlib.Omega.{arith}
 use borrow.Author.Tests.{eq-eqb, ne_eqb}
 use Rattle.laws.specs.Table.{all-at, both, both_left, both_right}
 use Rattle.sequence_ranges.specs.Ranges.{range, ranges, range_of, base}
@@ -48,18 +49,13 @@ law q h = same-is (code q) (range_of q) (all-at test 21 tt q h)
 pub returns-then-q-eq0 : goal.returns-then-q-eq0
 returns-then-q-eq0 c = let q = c.args.q in rw (eq-eqb q 0 c.if-q-eq0.true) at (law q c.requires)
 
-pub returns-then-m-eq2 : goal.returns-then-m-eq2
-returns-then-m-eq2 c = let q = c.args.q in
-    rw (ne_eqb q 0 c.if-q-eq0.false, eq-eqb (q % 3) 2 c.if-m-eq2.true) at (law q c.requires)
+pub returns-in-0 : goal.returns-in-0
+returns-in-0 c = rw (ne_eqb c.args.q 0 c.if-q-eq0.false, c.in-0.is) at (law c.args.q c.requires)
 
-pub returns-then-m-eq1 : goal.returns-then-m-eq1
-returns-then-m-eq1 c =
-    let q = c.args.q in
-    rw (ne_eqb q 0 c.if-q-eq0.false, ne_eqb (q % 3) 2 c.if-m-eq2.false, eq-eqb (q % 3) 1 c.if-m-eq1.true) at
-    (law q c.requires)
+pub returns-in-1 : goal.returns-in-1
+returns-in-1 c = rw (ne_eqb c.args.q 0 c.if-q-eq0.false, c.in-1.is) at (law c.args.q c.requires)
 
-pub returns-else-m-eq1 : goal.returns-else-m-eq1
-returns-else-m-eq1 c =
-    let q = c.args.q in
-    rw (ne_eqb q 0 c.if-q-eq0.false, ne_eqb (q % 3) 2 c.if-m-eq2.false, ne_eqb (q % 3) 1 c.if-m-eq1.false) at
-    (law q c.requires)
+pub returns-in_default : goal.returns-in_default
+returns-in_default c =
+    let m : c.args.q % 3 ≡ 2 = omega arith in
+    rw (ne_eqb c.args.q 0 c.if-q-eq0.false, m) at (law c.args.q c.requires)
