@@ -1,20 +1,16 @@
 // Blending: a texel's channel from its endpoints and its weight, and the word of four channels.
+// Endpoints and weights are numbers of the width that a loop blends eight of at once; so their
+// bounds are asked, and not kept in types of their own.
 #![tactic(auto)]
 
-ghost use Rattle.std.specs.Prelude.{◌≡◌, ◌-◌, ◌≤◌, ◌<◌};
+ghost use Rattle.std.specs.Prelude.{◌≡◌, ◌≤◌, ◌<◌};
 ghost use Rattle.blend.specs.Blend.{expand, half_of, ldr_channel, hdr_half, hdr_channel, word_of};
-
-fn u32_of(x: u8) -> u32
-    ensures { result ≡ x }
-{
-    x as u32
-}
 
 // The packed word of four channels.
 pub fn color(r: u8, g: u8, b: u8, a: u8) -> u32
     ensures { result ≡ word_of r g b a }
 {
-    u32_of(b) + 0x100 * u32_of(g) + 0x1_0000 * u32_of(r) + 0x100_0000 * u32_of(a)
+    u32::from_le_bytes([b, g, r, a])
 }
 
 // An endpoint expanded to 16 bits, which is 257 times a byte.
@@ -46,12 +42,6 @@ pub fn select_color_byte(v0: u16, v1: u16, weight: u16) -> u16
     (v + 32 - v / 8192) / 64
 }
 
-fn above(m: u32, k: u32) -> u32
-    ensures { result ≡ m - k }
-{
-    if m < k { 0 } else { m - k }
-}
-
 // The half of the 16 bits of a blended HDR channel. The low 11 bits rise by 3 eighths, from 512 on
 // by 4 and from 1536 on by 5.
 fn hdr_half(c: u32) -> u16
@@ -59,7 +49,7 @@ fn hdr_half(c: u32) -> u16
     ensures { result ≡ half_of c }
 {
     let m = c % 2048;
-    (c / 2048 * 1024 + (3 * m + above(m, 512) + above(m, 1536)) / 8) as u16
+    (c / 2048 * 1024 + (3 * m + m.saturating_sub(512) + m.saturating_sub(1536)) / 8) as u16
 }
 
 // The half of an HDR channel at a weight, for endpoints of 12 bits.

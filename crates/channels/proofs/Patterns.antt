@@ -1,21 +1,18 @@
 -- The byte of a float by its bit pattern: the exponent's field x and the digits t stand for (2 ^ 23 + t) * 2 ^ (x - 1) / 2 ^ 149. Assumes nothing.
-use mathlib.Core.Path.{◌≡◌, refl, sym, ap, ◌∙◌, subst}
+use mathlib.Core.Path.{◌≡◌, refl, sym, ap, ◌∙◌}
 use mathlib.Core.Bool.{Bool, true, false, cond, not}
 use Prim.Native.Nat.{ℕ, zero, suc, ◌+◌, ◌-◌, ◌*◌, ◌/◌, ◌%◌, ◌^◌, ◌≤◌, ◌<◌, min}
 use native.Mathlib.Nat.{mul_assoc, mul_right_comm, mul_comm, mul-le-mul, le-div_iff_mul-le, div-eq_of_lt, div-lt_iff_lt-mul, lt_of_lt_of_le, lt_of_le_of_lt}
 use native.Mathlib.Omega.{arith}
+use native.Mathlib.Decide.{ℕ_discrete}
 use lib.Dec.{T, leb, eqb}
 use lib.Pow.{pow-add, pow_pos, pow_mono, shl_lt}
-use lib.Ieee.{Float as Ieee, nan, inf, fin, binary32, ne, fits, is_nan, nan_bits, of_fields, of_bits, to_bits}
-use lib.Ieee.Compare.{differs_from_itself, nan_differs}
+use lib.Ieee.{Float as Ieee, nan, inf, fin, binary32, fits, is_nan, nan_bits, of_fields, of_bits, to_bits}
 use lib.Ieee.Bits.{of_bits-to_bits, nan_bits_is}
 use lib.Ieee.Exact.{HasValue, odd_sign}
 use lib.Ieee.Nearest.{div_same}
 use borrow.Author.Tests.{eq-eqb, ne_eqb, le-leb, lt-leb}
-use Rattle.channels.specs.Channels.{byte_of, nan_byte, reduced_by}
-use Rattle.channels.specs.declared.Channel.{Channel}
-use Rattle.channels.specs.declared.Channel.TheVariants.{Float}
-use Rattle.channels.specs.declared.Rule.{Rule}
+use Rattle.channels.specs.Channels.{byte_of}
 use Rattle.channels.specs.ChannelLaws.{byte-val}
 
 -- ---- the fields of a pattern
@@ -128,16 +125,23 @@ module _ (b : ℕ) (n : field b ≡ 255 → ⊥) where
         let d : scaled b ≡ shifted = rw z (div_same (g * 2 ^ (field b - 1) * 255) (2 ^ 149) (255 * g) (2 ^ (150 - b / 8388608)) (pow_pos 149) (pow_pos (150 - b / 8388608)) e) in
         sym (plus (omega arith) ∙ ap (λ (q : ℕ). min q 255) d ∙ under shifted shifted-lt)
 
--- ---- a float that is tested for a NaN
-pub ret-nan : (x : Ieee) (n : ℕ) → ne x x ≡ true → n ≡ byte_of n x
-unfolding byte_of
-ret-nan x n h = rw (differs_from_itself x (rw h tt))
+-- an infinity with no sign, or a number of 1 or more
+pub ret-large : (b : ℕ) → T (not (nan_bits binary32 b)) → 0x3f80_0000 ≤ b → b < 2147483648 → ◌≡◌ {A = ℕ} 255 (byte_of 0 (of_bits binary32 b))
+ret-large b t l h = go (ℕ_discrete b 0x7f80_0000)
+  where
+    go : Dec (b ≡ 0x7f80_0000) → ◌≡◌ {A = ℕ} 255 (byte_of 0 (of_bits binary32 b))
+    go (yes e) = ret-infinite b (omega arith)
+    go (no n) = ret-one b (finite-field b t (λ e. n (omega arith))) h l
 
-pub no_nan : (x : Ieee) → ne x x ≡ false → T (not (is_nan x))
-unfolding is_nan
-no_nan nan h = absurd (subst T (sym nan_differs ∙ h) tt)
-no_nan (inf s) h = tt
-no_nan (fin s m e) h = tt
+-- ---- a float that is tested for a NaN
+pub ret-nan : (x : Ieee) (n : ℕ) → is_nan x ≡ true → n ≡ byte_of n x
+unfolding byte_of is_nan
+ret-nan nan n h = refl
+ret-nan (inf s) n h = cc
+ret-nan (fin s m e) n h = cc
+
+pub no_nan : (x : Ieee) → is_nan x ≡ false → T (not (is_nan x))
+no_nan x h = rw h tt
 
 pub pattern-no-nan : (x : Ieee) → T (fits binary32 x) → T (not (is_nan x)) → T (not (nan_bits binary32 (to_bits binary32 x)))
 pattern-no-nan x f h = rw (nan_bits_is binary32 (to_bits binary32 x), of_bits-to_bits binary32 x f) h
@@ -151,7 +155,3 @@ ret-number x n r f h e = e ∙ ap (byte_of 0) (of_bits-to_bits binary32 x f) ∙
     go nan h = absurd h
     go (inf s) h = refl
     go (fin s m e) h = refl
-
--- ---- a channel by what it and the rule are
-pub ret-float : (rule k : Rule) (c : Channel) (x : Ieee) (r : ℕ) → c ≡ Float x → rule ≡ k → r ≡ byte_of (nan_byte k) x → r ≡ reduced_by rule c
-ret-float rule k c x r e d h = rw (e, d) h

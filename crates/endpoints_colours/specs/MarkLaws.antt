@@ -1,12 +1,12 @@
 -- The table of marks, held to docs/SCOPE.md: HDR colours are made by the modes 2, 3, 7, 11, 14 and 15, HDR alphas by 2, 3, 7, 11 and 15.
 -- Assumes nothing.
 use Rattle.std.specs.Prelude.{◌≡◌, refl, Bool, true, false, cond, ◌⊎◌, List, [], ◌∷◌, ℕ, ◌<◌, T, eqb}
-use Rattle.std.proofs.Common.{sym, subst, ap, inl, inr, ⊎_elim, eqb→eq}
+use Rattle.std.proofs.Common.{sym, subst, ap, inl, inr, eqb→eq, ⊎_elim}
 use Rattle.std.proofs.lemmas.Bool.{false≢true}
 use Rattle.laws.specs.Table.{all, all-at}
 use Rattle.endpoints_colours.specs.Marks.{is_hdr, marks_table, marks_of}
-use Rattle.endpoints_colours.specs.declared.Mark.{Mark}
 use Rattle.endpoints_colours.specs.declared.Mark.TheVariants.{Ldr, Hdr}
+use Rattle.endpoints_colours.specs.declared.Mark.{Mark}
 
 -- m is x or one of xs
 abbrev pub OneOf : ℕ → ℕ → List ℕ → Type 0

@@ -1,7 +1,7 @@
 -- Laws of the modes 11, 14 and 15: each component in closed form, for the sub-modes 0 to 7, held to the table.
 -- Assumes nothing.
-use Rattle.std.specs.Prelude.{◌≡◌, refl, cond, ◌⊎◌, List, [], ◌∷◌, ℕ, zero, suc, ◌+◌, ◌*◌, ◌-◌, ◌/◌, ◌%◌, ◌^◌, ◌≤◌, ◌<◌, ltb}
-use Rattle.std.proofs.Common.{ap, inl, inr, add-zero, zero-mul, mul-le-mul_right, lit≤, pow_pos, pow_mono, lt-ltb, le-ltb}
+use Rattle.std.specs.Prelude.{◌≡◌, refl, cond, List, [], ◌∷◌, ℕ, zero, suc, ◌+◌, ◌*◌, ◌-◌, ◌/◌, ◌%◌, ◌^◌, ◌≤◌, ◌<◌, ltb, ◌⊎◌}
+use Rattle.std.proofs.Common.{ap, add-zero, zero-mul, mul-le-mul_right, lit≤, pow_pos, pow_mono, lt-ltb, le-ltb, inl, inr}
 use native.Mathlib.Omega.{arith}
 use Rattle.std.proofs.Math.Decide.{dec_lt}
 use Rattle.std.proofs.Math.ListN.{get_or}
@@ -132,10 +132,6 @@ pub base-small : (v : Values) → v.v0 < 256 → (m : ℕ) → m < 8 → up m (g
 unfolding bases
 base-small v h = below-8 _ (omega arith) (omega arith) (omega arith) (omega arith) (omega arith) (omega arith) (omega arith) (omega arith)
 
--- with its bound
-pub base-out : (v : Values) (m r : ℕ) → v.v0 < 256 → m < 8 → r ≡ get_or (bases v) m 0 → (r ≡ get_or (bases v) m 0) × (up m r < 4096)
-base-out v m r h l e = (e, rw e (base-small v h m l))
-
 bits-few : (m : ℕ) → m < 8 → get_or offset_bits m 0 ≤ 7
 unfolding offset_bits
 bits-few = below-8 _ (lit≤ tt) (lit≤ tt) (lit≤ tt) (lit≤ tt) (lit≤ tt) (lit≤ tt) (lit≤ tt) (lit≤ tt)
@@ -180,6 +176,10 @@ unfolding bases
 base-rest v =
     below-8 _ (λ a b c d e f. refl) (λ a b c d e f. refl) (λ a b c d e f. absurd (a refl)) (λ a b c d e f. absurd (b refl)) (λ a b c d e f. absurd (c refl))
     (λ a b c d e f. absurd (d refl)) (λ a b c d e f. absurd (e refl)) (λ a b c d e f. absurd (f refl))
+
+-- with its bound
+pub base-out : (v : Values) (m r : ℕ) → v.v0 < 256 → m < 8 → r ≡ get_or (bases v) m 0 → (r ≡ get_or (bases v) m 0) × (up m r < 4096)
+base-out v m r h l e = (e, rw e (base-small v h m l))
 
 pub common-rest : (v : Values) (m : ℕ) → m < 8 → (m ≡ 2 → ⊥) → (m ≡ 3 → ⊥) → (m ≡ 5 → ⊥) → (m ≡ 6 → ⊥) → (m ≡ 7 → ⊥) → v.v1 % 64 ≡ get_or (commons v) m 0
 unfolding commons

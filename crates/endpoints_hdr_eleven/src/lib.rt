@@ -8,8 +8,9 @@ ghost use Rattle.endpoints_hdr_eleven.specs.Hdr11Laws.{bases, differences, commo
 use endpoints_colours::Values;
 
 // The numbers of mode 11: the base, two differences, what both endpoints differ by, and two
-// offsets.
-#[derive(Clone, Copy)]
+// offsets. Their bounds are no part of the type: specs/ defines them for values that are no bytes
+// too.
+#[derive(Clone, Copy, Debug, PartialEq, Eq, Hash)]
 pub struct Eleven {
     pub a: u16,
     pub b0: u16,
@@ -17,56 +18,6 @@ pub struct Eleven {
     pub c: u16,
     pub d0: u16,
     pub d1: u16,
-}
-
-fn base_eleven(mode: u8, v: Values) -> u16
-    requires { mode < 8 }
-    ensures { (result ≡ get_or (bases v) mode 0) × (up mode result < 4096) }
-{
-    let a = v.v0 as u16 + v.v1 as u16 / 64 % 2 * 256;
-    let x2 = v.v2 as u16 / 64 % 2;
-    let x3 = v.v3 as u16 / 64 % 2;
-    let x4 = v.v4 as u16 / 64 % 2;
-    let y4 = v.v4 as u16 / 32 % 2;
-    let y5 = v.v5 as u16 / 32 % 2;
-    match mode {
-        2 => a + x2 * 512,
-        3 => a + x4 * 512,
-        4 => a + y4 * 512 + y5 * 1024,
-        5 => a + x2 * 512 + x3 * 1024,
-        6 => a + y4 * 512 + y5 * 1024 + x4 * 2048,
-        7 => a + x2 * 512 + x3 * 1024 + x4 * 2048,
-        _ => a,
-    }
-}
-
-// The difference from byte x, whose high bit some modes take from byte y.
-fn difference(mode: u8, x: u8, y: u8) -> u16
-    requires { mode < 8 }
-    ensures { (result ≡ get_or (differences x y) mode 0) × (result < 256) }
-{
-    let w = x as u16;
-    match mode {
-        0 | 3 | 6 => w % 128,
-        1 | 4 => w % 128 + y as u16 / 64 % 2 * 128,
-        _ => w % 64,
-    }
-}
-
-fn common(mode: u8, v: Values) -> u16
-    requires { mode < 8 }
-    ensures { (result ≡ get_or (commons v) mode 0) × (result < 256) }
-{
-    let c = v.v1 as u16 % 64;
-    let x5 = v.v5 as u16 / 64 % 2 * 64;
-    match mode {
-        2 => c + v.v3 as u16 / 64 % 2 * 64,
-        3 => c + x5,
-        5 => c + x5 + v.v4 as u16 / 64 % 2 * 128,
-        6 => c + x5,
-        7 => c + x5,
-        _ => c,
-    }
 }
 
 // An offset whose top bit is set is a large number in the original: any from 4096 on makes the
@@ -77,42 +28,100 @@ fn keep(d: u16, half: u16) -> u16
     if d < half { d } else { 4096 }
 }
 
-fn offset(mode: u8, x: u8) -> u16
-    requires { mode < 8 }
-    ensures { (result ≡ get_or (offsets x) mode 0) × (result ≤ 4160) }
-{
-    let w = x as u16;
-    match mode {
-        0 | 2 => keep(w % 128, 64),
-        4 | 6 => keep(w % 32, 16),
-        _ => keep(w % 64, 32),
+// One of the eight sub-modes.
+#[derive(Clone, Copy, Debug, PartialEq, Eq, Hash)]
+struct SubMode {
+    number: u8,
+    ghost one_of_eight: { number < 8 },
+}
+
+impl SubMode {
+    #[tactic(auto, unfolding(crate::specs::Hdr11Laws::bases))]
+    fn base_eleven(self, v: Values) -> u16
+        ensures { (result ≡ get_or (bases v) self.number 0) × (up self.number result < 4096) }
+    {
+        let a = u16::from(v.v0) + u16::from(v.v1) / 64 % 2 * 256;
+        let x2 = u16::from(v.v2) / 64 % 2;
+        let x3 = u16::from(v.v3) / 64 % 2;
+        let x4 = u16::from(v.v4) / 64 % 2;
+        let y4 = u16::from(v.v4) / 32 % 2;
+        let y5 = u16::from(v.v5) / 32 % 2;
+        match self.number {
+            2 => a + x2 * 512,
+            3 => a + x4 * 512,
+            4 => a + y4 * 512 + y5 * 1024,
+            5 => a + x2 * 512 + x3 * 1024,
+            6 => a + y4 * 512 + y5 * 1024 + x4 * 2048,
+            7 => a + x2 * 512 + x3 * 1024 + x4 * 2048,
+            _ => a,
+        }
+    }
+
+    // The difference from byte x, whose high bit some modes take from byte y.
+    #[tactic(auto, unfolding(crate::specs::Hdr11Laws::differences))]
+    fn difference(self, x: u8, y: u8) -> u16
+        ensures { (result ≡ get_or (differences x y) self.number 0) × (result < 256) }
+    {
+        let w = u16::from(x);
+        match self.number {
+            0 | 3 | 6 => w % 128,
+            1 | 4 => w % 128 + u16::from(y) / 64 % 2 * 128,
+            _ => w % 64,
+        }
+    }
+
+    #[tactic(auto, unfolding(crate::specs::Hdr11Laws::commons))]
+    fn common(self, v: Values) -> u16
+        ensures { (result ≡ get_or (commons v) self.number 0) × (result < 256) }
+    {
+        let c = u16::from(v.v1) % 64;
+        let x5 = u16::from(v.v5) / 64 % 2 * 64;
+        match self.number {
+            2 => c + u16::from(v.v3) / 64 % 2 * 64,
+            3 | 6 | 7 => c + x5,
+            5 => c + x5 + u16::from(v.v4) / 64 % 2 * 128,
+            _ => c,
+        }
+    }
+
+    #[tactic(auto, unfolding(crate::specs::Hdr11Laws::offsets))]
+    fn offset(self, x: u8) -> u16
+        ensures { (result ≡ get_or (offsets x) self.number 0) × (result ≤ 4160) }
+    {
+        let w = u16::from(x);
+        match self.number {
+            0 | 2 => keep(w % 128, 64),
+            4 | 6 => keep(w % 32, 16),
+            _ => keep(w % 64, 32),
+        }
+    }
+
+    // What the numbers of the sub-mode are multiplied by: 2^(3 - number/2).
+    fn scale(self) -> u16
+        ensures { (result ≡ 2 ^ (3 - self.number / 2)) × (result ≤ 8) }
+    {
+        match self.number / 2 {
+            0 => 8,
+            1 => 4,
+            2 => 2,
+            _ => 1,
+        }
     }
 }
 
-// What the numbers of a sub-mode are multiplied by: 2^(3 - mode/2).
-fn scale(mode: u8) -> u16
-    requires { mode < 8 }
-    ensures { (result ≡ 2 ^ (3 - mode / 2)) × (result ≤ 8) }
-{
-    match mode / 2 {
-        0 => 8,
-        1 => 4,
-        2 => 2,
-        _ => 1,
-    }
-}
-
+#[tactic(auto, unfolding(crate::specs::Hdr11Laws::eleven_of))]
 pub fn parts_of_eleven(mode: u8, v: Values) -> Eleven
     requires { mode < 8 }
     ensures { (result ≡ eleven_of mode v) × (ElevenBounds result) }
 {
-    let by = scale(mode);
+    let m = SubMode { number: mode };
+    let by = m.scale();
     Eleven {
-        a: base_eleven(mode, v) * by,
-        b0: difference(mode, v.v2, v.v4) * by,
-        b1: difference(mode, v.v3, v.v5) * by,
-        c: common(mode, v) * by,
-        d0: offset(mode, v.v4) * by,
-        d1: offset(mode, v.v5) * by,
+        a: m.base_eleven(v) * by,
+        b0: m.difference(v.v2, v.v4) * by,
+        b1: m.difference(v.v3, v.v5) * by,
+        c: m.common(v) * by,
+        d0: m.offset(v.v4) * by,
+        d1: m.offset(v.v5) * by,
     }
 }

@@ -1,6 +1,8 @@
-// The endpoint modes 2, 3 and 7, of high dynamic range, and what mode 11 shares with them.
-ghost use Rattle.std.specs.Prelude.{◌≡◌, ◌≤◌, ◌<◌, min};
-ghost use Rattle.endpoints_rules.specs.Hdr.{hdr, grey, rgb, alphas, less, swapped, luminance_large, luminance_small, seven_major, seven_mode, seven_less, hdr7};
+// The endpoint modes 2, 3 and 7, of high dynamic range, and what mode 11 shares with them. The
+// sub-mode and the major component of mode 7 are the standard's numbers, read from bits, as the
+// definitions `seven_mode`, `seven_major` and `swapped` have them.
+ghost use Rattle.std.specs.Prelude.{◌≡◌, ◌<◌};
+ghost use Rattle.endpoints_rules.specs.Hdr.{hdr, grey, rgb, alphas, swapped, luminance_large, luminance_small, seven_major, seven_mode, seven_less, hdr7};
 ghost use Rattle.endpoints_hdr_seven.specs.HdrLaws.{Below};
 
 use endpoints_colours::{Alphas, Endpoints, Mark};
@@ -50,11 +52,12 @@ fn set_endpoint_grey(y0: u16, y1: u16) -> Endpoints
     )
 }
 
+#[tactic(auto, unfolding(endpoints_rules::specs::Hdr::luminance_large))]
 pub(crate) fn luminance_large(v0: u8, v1: u8) -> Endpoints
     ensures { result ≡ luminance_large v0 v1 }
 {
-    let x = v0 as u16 * 16;
-    let y = v1 as u16 * 16;
+    let x = u16::from(v0) * 16;
+    let y = u16::from(v1) * 16;
     if v0 <= v1 {
         set_endpoint_grey(x, y)
     } else {
@@ -62,80 +65,70 @@ pub(crate) fn luminance_large(v0: u8, v1: u8) -> Endpoints
     }
 }
 
-pub(crate) fn at_most_4095(x: u16) -> u16
-    ensures { result ≡ min 4095 x }
-{
-    if x < 4095 { x } else { 4095 }
-}
-
+#[tactic(auto, unfolding(endpoints_rules::specs::Hdr::luminance_small))]
 pub(crate) fn luminance_small(v0: u8, v1: u8) -> Endpoints
     ensures { result ≡ luminance_small v0 v1 }
 {
-    let x = v0 as u16 % 128;
-    let w = v1 as u16;
+    let x = u16::from(v0) % 128;
+    let w = u16::from(v1);
     if 128 <= v0 {
         let y = w / 32 * 512 + x * 4;
-        return set_endpoint_grey(y, at_most_4095(y + w % 32 * 4));
+        return set_endpoint_grey(y, (y + w % 32 * 4).min(4095));
     }
     let y = w / 16 * 256 + x * 2;
-    set_endpoint_grey(y, at_most_4095(y + w % 16 * 2))
+    set_endpoint_grey(y, (y + w % 16 * 2).min(4095))
 }
 
-// a - b, and 0 where b is the larger.
-pub(crate) fn lessened(a: u16, b: u16) -> u16
-    requires { a ≤ 4095 }
-    ensures { result ≡ less a b }
-{
-    if a < b { 0 } else { a - b }
-}
-
+#[tactic(auto, unfolding(endpoints_rules::specs::Hdr::swapped))]
 pub(crate) fn swap(major: u8, c: Rgb) -> Rgb
     ensures { result ≡ swapped major c }
 {
-    if major == 1 {
-        return rgb_of(c.g, c.r, c.b);
+    match major {
+        1 => rgb_of(c.g, c.r, c.b),
+        2 => rgb_of(c.b, c.g, c.r),
+        _ => c,
     }
-    if major == 2 {
-        return rgb_of(c.b, c.g, c.r);
-    }
-    c
 }
 
+#[tactic(auto, unfolding(endpoints_rules::specs::Hdr::seven_major))]
 fn major_seven(n: u8) -> u8
     ensures { result ≡ seven_major n }
 {
-    if n / 4 != 3 {
-        return n / 4;
+    match n {
+        12..=14 => n % 4,
+        15 => 0,
+        _ => n / 4,
     }
-    if n != 15 { n % 4 } else { 0 }
 }
 
+#[tactic(auto, unfolding(endpoints_rules::specs::Hdr::seven_mode))]
 fn mode_seven(n: u8) -> u8
     ensures { (result ≡ seven_mode n) × (result < 6) }
 {
-    if n / 4 != 3 {
-        return n % 4;
+    match n {
+        12..=14 => 4,
+        15 => 5,
+        _ => n % 4,
     }
-    if n != 15 { 4 } else { 5 }
 }
 
 // A colour of mode 7 less s: the second endpoint where s is 0, the first where s is the scale. In
 // sub-modes 0 to 4 green and blue are differences to red.
+#[tactic(auto, unfolding(endpoints_rules::specs::Hdr::seven_less))]
 fn less_seven(mode: u8, c: Seven, s: u16) -> Rgb
-    requires fact_1 { Below 4096 c }
-    requires fact_2 { s < 4096 }
+    requires parts { Below 4096 c }
+    requires scale { s < 4096 }
     ensures { result ≡ seven_less mode c s }
 {
+    let r = c.r.saturating_sub(s);
     if mode == 5 {
-        return rgb_of(lessened(c.r, s), lessened(c.g, s), lessened(c.b, s));
+        rgb_of(r, c.g.saturating_sub(s), c.b.saturating_sub(s))
+    } else {
+        rgb_of(r, c.r.saturating_sub(c.g + s), c.r.saturating_sub(c.b + s))
     }
-    rgb_of(
-        lessened(c.r, s),
-        lessened(c.r, c.g + s),
-        lessened(c.r, c.b + s),
-    )
 }
 
+#[tactic(auto, unfolding(endpoints_rules::specs::Hdr::seven_value, endpoints_rules::specs::Hdr::hdr7))]
 pub(crate) fn decode_endpoints_hdr7(v0: u8, v1: u8, v2: u8, v3: u8) -> Endpoints
     ensures { result ≡ hdr7 v0 v1 v2 v3 }
 {

@@ -16,9 +16,9 @@ fn first_eleven(e: Eleven) -> Rgb
         (less e.a (e.b1 + e.c + e.d1)) }
 {
     hdr::rgb_of(
-        hdr::lessened(e.a, e.c),
-        hdr::lessened(e.a, e.b0 + e.c + e.d0),
-        hdr::lessened(e.a, e.b1 + e.c + e.d1),
+        e.a.saturating_sub(e.c),
+        e.a.saturating_sub(e.b0 + e.c + e.d0),
+        e.a.saturating_sub(e.b1 + e.c + e.d1),
     )
 }
 
@@ -26,17 +26,26 @@ fn second_eleven(e: Eleven) -> Rgb
     requires { ElevenBounds e }
     ensures { result ≡ rgb e.a (less e.a e.b0) (less e.a e.b1) }
 {
-    hdr::rgb_of(e.a, hdr::lessened(e.a, e.b0), hdr::lessened(e.a, e.b1))
+    hdr::rgb_of(e.a, e.a.saturating_sub(e.b0), e.a.saturating_sub(e.b1))
 }
 
+#[tactic(auto, unfolding(endpoints_rules::specs::Hdr11::hdr11, endpoints_rules::specs::Hdr11::eleven_major, endpoints_rules::specs::Hdr11::eleven_mode))]
 pub(crate) fn decode_endpoints_hdr11(v: Values, t: Alphas) -> Endpoints
     ensures { result ≡ hdr11 v t }
 {
     let major = v.v4 / 128 + v.v5 / 128 * 2;
     if major == 3 {
         return hdr::set_endpoint_hdr(
-            hdr::rgb_of(v.v0 as u16 * 16, v.v2 as u16 * 16, v.v4 as u16 % 128 * 32),
-            hdr::rgb_of(v.v1 as u16 * 16, v.v3 as u16 * 16, v.v5 as u16 % 128 * 32),
+            hdr::rgb_of(
+                u16::from(v.v0) * 16,
+                u16::from(v.v2) * 16,
+                u16::from(v.v4) % 128 * 32,
+            ),
+            hdr::rgb_of(
+                u16::from(v.v1) * 16,
+                u16::from(v.v3) * 16,
+                u16::from(v.v5) % 128 * 32,
+            ),
             t,
         );
     }
@@ -52,13 +61,10 @@ fn alphas_by(first: u16, add: u16, sub: u16) -> Alphas
     requires { (first < 4096) × (add < 4096) }
     ensures { result ≡ alphas first (less (first + add) sub) Mark.Hdr }
 {
-    let sum = first + add;
-    if sum < sub {
-        return hdr::hdr_alphas_of(first, 0);
-    }
-    hdr::hdr_alphas_of(first, hdr::at_most_4095(sum - sub))
+    hdr::hdr_alphas_of(first, (first + add).saturating_sub(sub).min(4095))
 }
 
+#[tactic(auto, unfolding(endpoints_rules::specs::Hdr11::offset_alphas))]
 fn offset_alphas(mode: u8, x: u16, y: u16) -> Alphas
     requires { (mode < 3) × (x < 128) × (y < 128) }
     ensures { result ≡ offset_alphas mode x y }
@@ -70,12 +76,13 @@ fn offset_alphas(mode: u8, x: u16, y: u16) -> Alphas
     }
 }
 
+#[tactic(auto, unfolding(endpoints_rules::specs::Hdr11::hdr_alphas))]
 fn hdr_alphas(v: Values) -> Alphas
     ensures { result ≡ hdr_alphas v }
 {
     let mode = v.v6 / 128 + v.v7 / 128 * 2;
-    let x = v.v6 as u16 % 128;
-    let y = v.v7 as u16 % 128;
+    let x = u16::from(v.v6) % 128;
+    let y = u16::from(v.v7) % 128;
     if mode == 3 {
         return hdr::hdr_alphas_of(x * 32, y * 32);
     }
@@ -87,15 +94,13 @@ pub(crate) fn alphas_of(mode: u8, v: Values) -> Alphas
     ensures { result ≡
         cond (eqb mode 11) opaque (cond (eqb mode 14) (plain_alphas v) (hdr_alphas v)) }
 {
-    if mode == 11 {
-        return hdr::hdr_alphas_of(0x780, 0x780);
-    }
-    if mode == 14 {
-        return Alphas {
-            first: v.v6 as u16,
-            second: v.v7 as u16,
+    match mode {
+        11 => hdr::hdr_alphas_of(0x780, 0x780),
+        14 => Alphas {
+            first: u16::from(v.v6),
+            second: u16::from(v.v7),
             mark: Mark::Ldr,
-        };
+        },
+        _ => hdr_alphas(v),
     }
-    hdr_alphas(v)
 }

@@ -1,4 +1,6 @@
-// The endpoint modes of high dynamic range.
+// The endpoint modes of high dynamic range. Modes, sub-modes and major components are numbers: they
+// are the standard's, and the definitions `endpoints_of`, `seven_mode`, `seven_major` and `swapped`
+// speak of them.
 #![tactic(auto)]
 
 ghost use Rattle.std.specs.Prelude.{◌≡◌, ◌<◌};

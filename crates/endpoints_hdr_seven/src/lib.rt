@@ -19,15 +19,16 @@ fn seven_by(r: u16, g: u16, b: u16, s: u16, by: u16) -> Seven
     }
 }
 
-// The numbers of sub-mode 0 to 5.
+// The numbers of sub-mode 0 to 5. A sub-mode is the standard's number, read from bits, as the
+// definition `seven_of` takes it.
 pub fn parts_of_seven(mode: u8, v0: u8, v1: u8, v2: u8, v3: u8) -> Seven
     requires { mode < 6 }
     ensures { (result ≡ seven_of mode v0 v1 v2 v3) × (Below 4096 result) }
 {
-    let r = v0 as u16 % 64;
-    let g = v1 as u16;
-    let b = v2 as u16;
-    let s = v3 as u16;
+    let r = u16::from(v0) % 64;
+    let g = u16::from(v1);
+    let b = u16::from(v2);
+    let s = u16::from(v3);
     let x0 = g / 64 % 2;
     let x1 = g / 32 % 2;
     let x2 = b / 64 % 2;

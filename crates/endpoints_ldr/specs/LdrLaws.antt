@@ -1,12 +1,10 @@
--- The ways out of the modes of low dynamic range, as the code's tests lead there, and the forms that inner functions promise.
+-- The modes of low dynamic range, as the code's arms lead there, and the forms that inner functions promise.
 -- Assumes nothing.
-use Rattle.std.specs.Prelude.{◌≡◌, cond, ◌⊎◌, ℕ, ◌+◌, ◌*◌, ◌/◌, ◌%◌, ◌≤◌, ◌<◌, min, eqb}
+use Rattle.std.specs.Prelude.{◌≡◌, cond, ◌⊎◌, ℕ, ◌+◌, ◌<◌, eqb, ◌*◌, ◌/◌, ◌%◌, ◌≤◌, min}
 use Rattle.std.proofs.Common.{◌∙◌, inl, inr, ⊎_elim, mul-le-mul, arith}
-use borrow.Author.Tests.{le-leb, lt-leb}
-use Rattle.endpoints_colours.specs.Colours.{rgba, ldr}
 use Rattle.endpoints_colours.specs.Marks.{marks_of}
 use Rattle.endpoints_colours.specs.MarkLaws.{ldr-modes}
-use Rattle.endpoints_rules.specs.Ldr.{contracted, base_of, offset_of, clamped_pair, luminance, luminance_offset, luminance_alpha_offset, scaled, direct, offset}
+use Rattle.endpoints_rules.specs.Ldr.{base_of, offset_of, luminance, luminance_offset, luminance_alpha_offset, scaled, direct, offset, contracted, clamped_pair}
 use Rattle.endpoints_rules.specs.Modes.{by_mode, endpoints_of}
 use Rattle.endpoints_colours.specs.declared.Endpoints.{Endpoints}
 use Rattle.endpoints_colours.specs.declared.Values.{Values}
@@ -14,6 +12,8 @@ use Rattle.endpoints_ldr.specs.declared.Transfer.{Transfer}
 use Rattle.endpoints_colours.specs.declared.Alphas.{Alphas}
 use Rattle.endpoints_colours.specs.declared.Rgba.{Rgba}
 use Rattle.endpoints_colours.specs.declared.Mark.TheVariants.{Ldr}
+use borrow.Author.Tests.{le-leb, lt-leb}
+use Rattle.endpoints_colours.specs.Colours.{rgba, ldr}
 
 -- small enough for sums in 16 bits
 pub record Narrow (c : Rgba) : Type 0 where

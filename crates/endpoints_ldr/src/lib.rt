@@ -1,4 +1,5 @@
-// The endpoint modes of low dynamic range.
+// The endpoint modes of low dynamic range. A mode is a number, as it is in the standard's table and
+// in the definition `endpoints_of`; `offset_alphas` and `opaque_or` test that number.
 #![tactic(auto)]
 
 ghost use Rattle.std.specs.Prelude.{◌≡◌, cond, ◌*◌, ◌/◌, ◌<◌, min, eqb};
@@ -11,7 +12,7 @@ ghost use Rattle.endpoints_ldr.specs.LdrLaws.{transferred, opaque_alphas, transf
 use endpoints_colours::{Alphas, Endpoints, Mark, Rgba, Values};
 
 // A base that has taken the top bit of its offset, and what is left of the offset, with 32 added.
-#[derive(Clone, Copy)]
+#[derive(Clone, Copy, Debug, PartialEq, Eq, Hash)]
 pub struct Transfer {
     pub base: u16,
     pub offset: u16,
@@ -34,7 +35,8 @@ fn set_endpoint(c: Rgba, d: Rgba) -> Endpoints
     }
 }
 
-// Red and green are moved half the way to blue.
+// Red and green are moved half the way to blue. That they are narrow is asked here and by its
+// callers: the definitions of specs/ take colours of any size, so the type cannot hold it.
 fn contract(c: Rgba) -> Rgba
     requires { Narrow c }
     ensures { result ≡ contracted c }
@@ -58,10 +60,7 @@ fn set_endpoint_blue(c: Rgba, d: Rgba) -> Endpoints
 fn clamp(x: u16) -> u16
     ensures { result ≡ clamped x }
 {
-    if x < 32 {
-        return 0;
-    }
-    if x < 287 { x - 32 } else { 255 }
+    x.saturating_sub(32).min(255)
 }
 
 fn clamp_each(c: Rgba) -> Rgba
@@ -91,12 +90,13 @@ fn set_endpoint_blue_clamp(c: Rgba, d: Rgba) -> Endpoints
     set_endpoint_clamp(contract(c), contract(d))
 }
 
+#[tactic(auto, unfolding(endpoints_rules::specs::Ldr::base_of, endpoints_rules::specs::Ldr::offset_of))]
 fn bit_transfer_signed(offset: u8, base: u8) -> Transfer
     ensures { (result ≡ transferred offset base) × (result.base < 256) × (result.offset < 64) }
 {
     Transfer {
-        base: base as u16 / 2 + offset as u16 / 128 * 128,
-        offset: (offset as u16 / 2 + 32) % 64,
+        base: u16::from(base) / 2 + u16::from(offset) / 128 * 128,
+        offset: (u16::from(offset) / 2 + 32) % 64,
     }
 }
 
@@ -112,25 +112,25 @@ fn grey(x: u16, a: u16) -> Rgba
     }
 }
 
+#[tactic(auto, unfolding(endpoints_rules::specs::Ldr::luminance))]
 fn luminance_endpoints(v0: u8, v1: u8, a0: u8, a1: u8) -> Endpoints
     ensures { result ≡ luminance v0 v1 a0 a1 }
 {
-    set_endpoint(grey(v0 as u16, a0 as u16), grey(v1 as u16, a1 as u16))
+    set_endpoint(
+        grey(u16::from(v0), u16::from(a0)),
+        grey(u16::from(v1), u16::from(a1)),
+    )
 }
 
-fn at_most_255(x: u16) -> u16
-    ensures { result ≡ min 255 x }
-{
-    if x < 255 { x } else { 255 }
-}
-
+#[tactic(auto, unfolding(endpoints_rules::specs::Ldr::luminance_offset, endpoints_rules::specs::Ldr::luminance))]
 fn luminance_offset(v0: u8, v1: u8) -> Endpoints
     ensures { result ≡ luminance_offset v0 v1 }
 {
-    let l = v0 as u16 / 4 + v1 as u16 / 64 * 64;
-    set_endpoint(grey(l, 255), grey(at_most_255(l + v1 as u16 % 64), 255))
+    let l = u16::from(v0) / 4 + u16::from(v1) / 64 * 64;
+    set_endpoint(grey(l, 255), grey((l + u16::from(v1) % 64).min(255), 255))
 }
 
+#[tactic(auto, unfolding(endpoints_rules::specs::Ldr::luminance_alpha_offset))]
 fn luminance_alpha_offset(v0: u8, v1: u8, v2: u8, v3: u8) -> Endpoints
     ensures { result ≡ luminance_alpha_offset v0 v1 v2 v3 }
 {
@@ -146,11 +146,12 @@ fn luminance_alpha_offset(v0: u8, v1: u8, v2: u8, v3: u8) -> Endpoints
 fn share(x: u8, s: u8) -> u16
     ensures { result ≡ x * s / 256 }
 {
-    x as u16 * s as u16 / 256
+    u16::from(x) * u16::from(s) / 256
 }
 
 // The endpoints of modes 6 and 10: the second is the colour of the values, the first is that colour
 // times the scale.
+#[tactic(auto, unfolding(endpoints_rules::specs::Ldr::scaled))]
 fn scaled_endpoints(v: Values, a0: u8, a1: u8) -> Endpoints
     ensures { result ≡ scaled v a0 a1 }
 {
@@ -159,31 +160,32 @@ fn scaled_endpoints(v: Values, a0: u8, a1: u8) -> Endpoints
             r: share(v.v0, v.v3),
             g: share(v.v1, v.v3),
             b: share(v.v2, v.v3),
-            a: a0 as u16,
+            a: u16::from(a0),
         },
         Rgba {
-            r: v.v0 as u16,
-            g: v.v1 as u16,
-            b: v.v2 as u16,
-            a: a1 as u16,
+            r: u16::from(v.v0),
+            g: u16::from(v.v1),
+            b: u16::from(v.v2),
+            a: u16::from(a1),
         },
     )
 }
 
+#[tactic(auto, unfolding(endpoints_rules::specs::Ldr::direct))]
 fn direct_endpoints(v: Values, a0: u8, a1: u8) -> Endpoints
     ensures { result ≡ direct v a0 a1 }
 {
     let c = Rgba {
-        r: v.v0 as u16,
-        g: v.v2 as u16,
-        b: v.v4 as u16,
-        a: a0 as u16,
+        r: u16::from(v.v0),
+        g: u16::from(v.v2),
+        b: u16::from(v.v4),
+        a: u16::from(a0),
     };
     let d = Rgba {
-        r: v.v1 as u16,
-        g: v.v3 as u16,
-        b: v.v5 as u16,
-        a: a1 as u16,
+        r: u16::from(v.v1),
+        g: u16::from(v.v3),
+        b: u16::from(v.v5),
+        a: u16::from(a1),
     };
     if c.r + c.g + c.b <= d.r + d.g + d.b {
         set_endpoint(c, d)
@@ -212,6 +214,7 @@ fn offset_alphas(mode: u8, v6: u8, v7: u8) -> Alphas
 }
 
 // The endpoints of modes 9 and 13, from their values and from alphas to which 32 is added.
+#[tactic(auto, unfolding(endpoints_rules::specs::Ldr::offset))]
 fn offset_endpoints(v: Values, t: Alphas) -> Endpoints
     ensures { result ≡ offset v t.first t.second }
 {

@@ -1,7 +1,7 @@
--- Laws of bits at their places: each is at most its place, and so are their sums; and the low bits of a byte one by one.
+-- Laws of bits at their places: the low bits of a byte one by one.
 -- Assumes nothing.
-use Rattle.std.specs.Prelude.{◌≡◌, ℕ, ◌+◌, ◌*◌, ◌/◌, ◌%◌, ◌≤◌, ◌<◌}
-use Rattle.std.proofs.Common.{one-mul, mul-le-mul, mul-le-mul_right, arith, Fits}
+use Rattle.std.specs.Prelude.{◌≡◌, ℕ, ◌+◌, ◌*◌, ◌/◌, ◌%◌, ◌<◌, ◌≤◌}
+use Rattle.std.proofs.Common.{arith, one-mul, mul-le-mul, mul-le-mul_right, Fits}
 use Rattle.std.proofs.lemmas.Nat.{mod-pow-add}
 use Rattle.std.specs.Int.{w16}
 

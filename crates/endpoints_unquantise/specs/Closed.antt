@@ -1,8 +1,7 @@
 -- The closed forms by which the loops bring values to bytes, and that they give each range's bytes: computed tests over all of its values.
 -- Assumes nothing.
 use Rattle.std.specs.Prelude.{◌≡◌, Bool, cond, List, ℕ, ◌+◌, ◌*◌, ◌-◌, ◌/◌, ◌%◌, ◌^◌, ◌≤◌, ◌<◌, T, eqb, length, get_or, replicate}
-use Rattle.std.proofs.Common.{sym, ap, ◌∙◌, mul-le-mul, mod-lt, mod-eq_of_lt, one-mul, lt_of_lt_of_le, lt_of_le_of_lt, arith, pow_pos, pow_mono, eqb→eq, lit<}
-use Rattle.std.proofs.lemmas.Nat.{shr_le}
+use Rattle.std.proofs.Common.{sym, ap, ◌∙◌, mod-eq_of_lt, one-mul, lt_of_le_of_lt, arith, pow_mono, eqb→eq, lit<, mul-le-mul, mod-lt, lt_of_lt_of_le, pow_pos}
 use Rattle.std.proofs.Math.Decide.{dec_lt}
 use Rattle.std.proofs.lemmas.List.{length-replicate, get_or-replicate}
 use Rattle.laws.specs.Lists.{put, length-put, put_in, put-after, is-list_of}
@@ -14,6 +13,7 @@ use Rattle.endpoints_unquantise.specs.Patterns.{trit_rows, quint_rows}
 use Rattle.endpoints_unquantise.specs.Unquantised.{by_row, unquantise, endpoint_value, endpoint_values}
 use Rattle.endpoints_unquantise.specs.declared.Rule.{Rule}
 use Rattle.endpoints_unquantise.specs.declared.Repeat.{Repeat}
+use Rattle.std.proofs.lemmas.Nat.{shr_le}
 
 -- x, or 255 - x where v is odd
 abbrev pub flipped : ℕ → ℕ → ℕ
@@ -101,6 +101,7 @@ copied-most p v s h =
     let m : v * p.spread ≤ 9180 = mul-le-mul a s.spread in
     omega (arith, shr_le v p.over)
 
+-- ---- a shifted one is a power of two
 pub one_shl : (n : ℕ) → n ≤ 6 → 1 * 2 ^ n % 65536 ≡ 2 ^ n
 one_shl n h = rw (one-mul (2 ^ n)) (mod-eq_of_lt (lt_of_le_of_lt (pow_mono h) (lit< tt)))
 

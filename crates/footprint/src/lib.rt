@@ -2,7 +2,7 @@
 #![tactic(auto)]
 
 ghost use Rattle.std.specs.Prelude.{◌≡◌};
-ghost use Rattle.footprint.specs.Footprints.{one_of2, listed};
+ghost use Rattle.footprint.specs.Footprints.{listed};
 
 // The texels of the largest footprint.
 pub const TEXELS: usize = 144;
@@ -10,35 +10,21 @@ pub const TEXELS: usize = 144;
 // The weights of the largest footprint: one for each texel in each of two planes.
 pub const WEIGHTS: usize = 288;
 
-#[derive(Clone, Copy)]
+// The sides of a block. They may be any, as callers pass them to `is_listed`, so that a function
+// that needs listed ones asks for them (`Sides`).
+#[derive(Clone, Copy, Debug, PartialEq, Eq, Hash)]
 pub struct Footprint {
     pub width: usize,
     pub height: usize,
 }
 
-fn either(h: usize, a: usize, b: usize) -> bool
-    ensures { result ≡ one_of2 h a b }
-{
-    if h == a { true } else { h == b }
-}
-
 // Whether a footprint is one of the fourteen.
+#[tactic(auto, using(std::proofs::lemmas::Bool::Decides::nat_tests), unfolding(crate::specs::Footprints::listed, crate::specs::Footprints::one_of2))]
 pub fn is_listed(f: Footprint) -> bool
     ensures { result ≡ listed f }
 {
-    let w = f.width;
-    let h = f.height;
-    match w {
-        4 => h == 4,
-        5 => either(h, 4, 5),
-        6 => either(h, 5, 6),
-        8 => if either(h, 5, 6) { true } else { h == 8 },
-        10 => if either(h, 5, 6) {
-            true
-        } else {
-            either(h, 8, 10)
-        },
-        12 => either(h, 10, 12),
-        _ => false,
-    }
+    matches!(
+        (f.width, f.height),
+        (4, 4) | (5, 4 | 5) | (6, 5 | 6) | (8, 5 | 6 | 8) | (10, 5 | 6 | 8 | 10) | (12, 10 | 12)
+    )
 }

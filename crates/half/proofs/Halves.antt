@@ -8,7 +8,7 @@ use mathlib.Core.Bool.{Bool, true, false, not, cond}
 use lib.Dec.{T, leb, eqb, leb→le, le→leb, eqb→eq, not_T, lit<, lit≤}
 use lib.IntN.{pos, negsuc}
 use lib.Pow.{pow-add, pow_pos}
-use lib.Ieee.{Float, nan, inf, fin, binary32, unlike, odd, round, mul, neg, fits, div, is_nan, in_float, nan_bits, of_fields, of_bits, of_int}
+use lib.Ieee.{Float, nan, inf, fin, binary32, unlike, odd, round, mul, neg, fits, is_nan, in_float, nan_bits, of_fields, of_bits, of_int}
 use lib.Ieee.Fits.{eq→eqb, odd-fits, mul-fits, inf-fits, nan-fits, cond-fits}
 use lib.Ieee.Bits.{is_true, is_false, cond_no, nan_bits_is, of_bits-fits}
 use lib.Ieee.Exact.{HasValue, odd_sign, round_exact}
@@ -74,8 +74,8 @@ pub ret-inf : (x t : ℕ) → x ≡ 31 → t ≡ 0 → of_bits binary32 0x7f80_0
 unfolding value of_bits
 ret-inf x t e g = ap (λ (z : ℕ). value false 31 z) (sym g) ∙ ap (λ (z : ℕ). value false z t) (sym e)
 
-pub ret-nan : (x t : ℕ) → x ≡ 31 → (t ≡ 0 → ⊥) → div binary32 (of_bits binary32 0) (of_bits binary32 0) ≡ value false x t
-unfolding value of_bits div
+pub ret-nan : (x t : ℕ) → x ≡ 31 → (t ≡ 0 → ⊥) → of_bits binary32 0x7fc0_0000 ≡ value false x t
+unfolding value of_bits
 ret-nan x t e g = sym (cond_no (eqb t 0) (inf false) nan (not_eqb t 0 g)) ∙ ap (λ (z : ℕ). value false z t) (sym e)
 
 pub ret-tiny : (x t : ℕ) → t < 1024 → x ≡ 0 → mul binary32 (of_int binary32 (pos t)) (of_bits binary32 0x3380_0000) ≡ value false x t

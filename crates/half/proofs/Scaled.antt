@@ -124,7 +124,7 @@ signed f = to_z w32 (of_z w32 (to_signed 31 f))
 abbrev unsigned : Float → ℕ
 unsigned f = nat_abs (signed f)
 
--- k is what `between` gives, and lies inside
+-- k is what `clamp` gives, and lies inside
 pub from : (h k low high : ℕ) → k ≡ max low (min h high) → T (leb 0x800 low) → 0x800 ≤ k
 from h k low high e l = omega (arith, leb→le 0x800 low l)
 

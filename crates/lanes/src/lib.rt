@@ -11,7 +11,7 @@ ghost use Rattle.lanes.specs.Lanes.{eights, joined_at};
 pub const LANES: usize = 576;
 
 // What the lanes of a block are to hold: the words of its texels, or the samples of their channels.
-#[derive(Clone, Copy)]
+#[derive(Clone, Copy, Debug, PartialEq, Eq, Hash)]
 pub enum Form {
     Words,
     Samples,
@@ -22,45 +22,35 @@ pub fn eights(n: usize) -> usize
     requires { n ≤ most_weights }
     ensures { result ≡ eights n }
 {
-    (n + 7) / 8 * 8
+    n.div_ceil(8) * 8
 }
 
-// A cast in a function of its own, so that its caller need not show that the number fits.
-fn u32_of(x: u16) -> u32
-    ensures { (result ≡ x) × (result < 65536) }
-{
-    x as u32
-}
-
-// The word of texel i.
+// The word of texel i. Its lanes share no bit, and are joined by a sum as in the definition
+// `joined_at`.
 pub fn word(lanes: &[u16; LANES], i: usize) -> u32
     requires { i < most_texels }
     ensures { result ≡ joined_at lanes.now i }
 {
-    u32_of(lanes[2 * i]) + 0x1_0000 * u32_of(lanes[2 * i + 1])
+    u32::from(lanes[2 * i]) + 0x1_0000 * u32::from(lanes[2 * i + 1])
 }
 
-// Copies the words of texels from .. from + n to out[to .. to + n].
+// Copies the words of texels from .. from + n to out[to .. to + n]. It is given the whole output
+// and a place in it, and not the part, as docs/PROMISES.md states what becomes of the other places.
 pub fn copy(lanes: &[u16; LANES], from: usize, out: &mut [u32], to: usize, n: usize)
     requires { (from + n ≤ most_texels) × (to + n ≤ length out.old) }
     ensures { out.new ≡
         put_at (λ (i : ℕ). joined_at lanes.now (from + i)) to n out.old }
 {
-    let mut i = 0;
-    while i < n {
+    for i in 0..n {
         out[to + i] = word(lanes, from + i);
-        i += 1;
     }
 }
 
-// Fills out[to .. to + n] with one word.
+// Fills out[to .. to + n] with one word. It is given the whole output too, and not the part, as
+// docs/PROMISES.md states what becomes of the other places.
 pub fn fill(word: u32, out: &mut [u32], to: usize, n: usize)
     requires { to + n ≤ length out.old }
     ensures { out.new ≡ put_at (λ (i : ℕ). word) to n out.old }
 {
-    let mut k = 0;
-    while k < n {
-        out[to + k] = word;
-        k += 1;
-    }
+    out[to..to + n].fill(word);
 }

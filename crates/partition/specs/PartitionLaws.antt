@@ -1,9 +1,10 @@
 -- The laws of partitions: the largest ramp as the code finds it, the rows of a footprint, and every partition below the count.
 -- Assumes nothing.
 use Rattle.std.specs.Prelude.{◌≡◌, refl, Bool, true, false, cond, ◌&&◌, ◌⊎◌, ℕ, ◌+◌, ◌-◌, ◌*◌, ◌/◌, ◌%◌, ◌≤◌, ◌<◌, max, leb, ltb, List}
-use Rattle.std.proofs.Common.{sym, ◌∙◌, inl, inr, mul-le-mul, mul-add, mul-one, zero-mul, arith}
+use Rattle.std.specs.Int.{from_bool}
+use Rattle.std.proofs.Common.{sym, ◌∙◌, inl, inr, zero-mul, arith, mul-le-mul, mul-add, mul-one}
 use Rattle.std.proofs.Math.Decide.{dec_lt}
-use borrow.Author.Tests.{leb-true, le-leb, lt-leb, lt-ltb, le-ltb}
+use borrow.Author.Tests.{leb-true, ltb-true, ltb-false, le-leb, lt-leb, lt-ltb, le-ltb}
 use Rattle.laws.specs.Numbers.{choice}
 use Rattle.laws.specs.Lists.{texels, put, put_at, put-row, put_same}
 use Rattle.partition.specs.Partition.{seed_of, largest, select, scale_of, partition_at}
@@ -11,10 +12,10 @@ use Rattle.partition_ramps.specs.Ramps.{ramp}
 use Rattle.partition_ramps.specs.Held.{Gentle, ramp_of, ramp_at}
 use Rattle.partition_ramps.specs.RampLaws.{ramp-held}
 use Rattle.partition_ramps.specs.declared.Ramp.{Ramp}
-use Rattle.partition.specs.Rows.{moved_to, in_row_of_two, in_row_of_four, of_two, of_four}
+use Rattle.partition.specs.Rows.{of_two, of_four, moved_to, in_row_of_two, in_row_of_four}
 use Rattle.footprint.specs.Footprints.{texels_of, most_texels}
-use Rattle.footprint.specs.Sides.{Sides}
 use Rattle.footprint.specs.declared.Footprint.{Footprint}
+use Rattle.footprint.specs.Sides.{Sides}
 
 -- ---- the largest
 -- as the code finds it: the larger of two pairs
@@ -97,6 +98,18 @@ four-second a b c d m n p q h l = largest-second a b c d l (omega arith) (omega 
 pub four-first : (a b c d m n : ℕ) → m ≡ max a b → n ≡ max c d → n ≤ m → b ≤ a → 0 ≡ largest a b c d
 four-first a b c d m n p q h l = largest-first a b c d l (omega arith) (omega arith)
 
+-- the first pair by its comparison as a number
+pub pair-by : (a b c d r : ℕ) → r ≡ from_bool (ltb a b) → c ≤ max a b → d ≤ max a b → r ≡ largest a b c d
+pair-by a b c d r e h l = e ∙ go (ltb a b) refl
+  where
+    go : (t : Bool) → ltb a b ≡ t → from_bool t ≡ largest a b c d
+    go true m =
+        let k : a < b = ltb-true _ _ m in
+        largest-second a b c d k (omega (arith, k, h)) (omega (arith, k, l))
+    go false m =
+        let k : b ≤ a = ltb-false _ _ m in
+        largest-first a b c d k (omega (arith, k, h)) (omega (arith, k, l))
+
 -- ---- a ramp's numbers stay small
 pub gentle-mul : (b n : ℕ) → b ≤ 28 → n < 12 → b * n ≤ 308
 gentle-mul b n h l = let m : n ≤ 11 = omega arith in mul-le-mul h m
@@ -127,6 +140,13 @@ row_fits f t s h =
     let u : t + 1 ≤ 12 = omega (arith, s.height) in
     let m : f.width * (t + 1) ≤ most_texels = mul-le-mul s.width u in
     omega (arith, mul-add f.width t 1, mul-one f.width)
+
+-- ---- rows
+-- a turn of the loop over the rows, where g is the row y of f
+pub row-turn : (f : ℕ → ℕ → ℕ) (g : ℕ → ℕ) (w y : ℕ) (s t u : List ℕ) → 0 < w → ((k : ℕ) → g k ≡ f k y) → t ≡ put (texels f w) 0 (w * y) s
+    → u ≡ put_at g (w * y) w t → u ≡ put (texels f w) 0 (w * (y + 1)) s
+unfolding put_at
+row-turn f g w y s t u p same et eu = eu ∙ rw et (put-row f (λ (k : ℕ). g (k - w * y)) w y s p (λ k l h. same (k - w * y)))
 
 -- ---- the whole
 flat-zero : (s t : ℕ) → ramp_at (record { start = 0; along = 0; down = 0 }) s t ≡ 0

@@ -6,8 +6,9 @@ ghost use Rattle.partition_ramps.specs.Ramps.{hash52, by_bit, by_count, shift_x,
 ghost use Rattle.partition_ramps.specs.Held.{ramp_of};
 
 // A ramp over a footprint: its value at the first texel, and its slopes along a row and down a
-// column.
-#[derive(Clone, Copy)]
+// column. Its bounds, `Gentle`, are no ghost field: the definitions `ramp_of` and `moved_to` make
+// ramps of any numbers.
+#[derive(Clone, Copy, Debug, PartialEq, Eq, Hash)]
 pub struct Ramp {
     pub start: u16,
     pub along: u16,
@@ -19,11 +20,11 @@ pub fn hash(seed: u32) -> u32
     ensures { result ≡ hash52 seed }
 {
     let a = seed ^ (seed >> 15);
-    let b = std::num::wrapping_sub_u32(a, a << 17);
-    let c = std::num::wrapping_add_u32(b, b << 7);
-    let d = std::num::wrapping_add_u32(c, c << 4);
+    let b = a.wrapping_sub(a << 17);
+    let c = b.wrapping_add(b << 7);
+    let d = c.wrapping_add(c << 4);
     let e = d ^ (d >> 5);
-    let f = std::num::wrapping_add_u32(e, e << 16);
+    let f = e.wrapping_add(e << 16);
     let g = f ^ (f >> 7);
     let h = g ^ (g >> 3);
     let i = h ^ (h << 6);
@@ -42,6 +43,7 @@ fn by_count(parts: usize) -> u32
     if parts == 3 { 6 } else { 5 }
 }
 
+#[tactic(auto, unfolding(crate::specs::Ramps::shift_x))]
 fn shift_x(seed: u32, parts: usize) -> u32
     ensures { result ≡ shift_x seed parts }
 {
@@ -52,6 +54,7 @@ fn shift_x(seed: u32, parts: usize) -> u32
     }
 }
 
+#[tactic(auto, unfolding(crate::specs::Ramps::shift_y))]
 fn shift_y(seed: u32, parts: usize) -> u32
     ensures { result ≡ shift_y seed parts }
 {
@@ -71,7 +74,8 @@ fn slope(r: u32, at: u32, shift: u32) -> u16
 }
 
 // Ramp i of the hash r of a seed. A scale of 2 doubles the slopes, where the standard doubles the
-// coordinates.
+// coordinates. The hash, the seed, the count and the scale stay parameters, as docs/PROMISES.md has
+// them.
 pub fn ramp_of(r: u32, seed: u32, parts: usize, i: u32, scale: u16) -> Ramp
     requires { (r ≡ hash52 seed) × ((i < 4) × (scale ≤ 2)) }
     ensures { result ≡ ramp_of seed parts i scale }

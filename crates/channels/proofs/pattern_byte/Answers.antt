@@ -1,28 +1,23 @@
 -- `channels::pattern_byte` meets its contract: each way out is a law of Patterns. Assumes nothing.
-use Prim.Native.Nat.{◌-◌, ◌/◌, ◌<◌}
+use Prim.Native.Nat.{◌-◌, ◌/◌}
 use native.Mathlib.Omega.{arith}
-use Rattle.channels.proofs.Patterns.{finite-field, ret-infinite, ret-minus, ret-one, ret-none, shift-lt, ret-shifted}
+use Rattle.channels.proofs.Patterns.{finite-field, ret-infinite, ret-large, ret-minus, ret-none, shift-lt, ret-shifted}
 use Rattle.channels.proofs.pattern_byte.Goals as goal
 
 pub overflow_cast-result : goal.overflow_cast-result
-overflow_cast-result c =
-    let below : c.args.b < 0x3f80_0000 = omega (arith, c.if-b-ge1065353216.false) in
-    record { fits = shift-lt _ (150 - c.args.b / 8388608) (omega arith) (omega (arith, below)) }
+overflow_cast-result c = record { fits = shift-lt _ (150 - c.args.b / 8388608) (omega arith) (omega arith) }
 
-pub returns-then-b-eq2139095040 : goal.returns-then-b-eq2139095040
-returns-then-b-eq2139095040 c = ret-infinite _ c.if-b-eq2139095040.true
+pub returns-in-0-to-998244351 : goal.returns-in-0-to-998244351
+returns-in-0-to-998244351 c = ret-none c.args.b (λ e. omega arith) (omega arith)
 
-pub returns-then-b-ge2147483648 : goal.returns-then-b-ge2147483648
-returns-then-b-ge2147483648 c = ret-minus _ (finite-field _ c.requires c.if-b-eq2139095040.false) c.if-b-ge2147483648.true
+pub returns-in-998244352-to-1065353215 : goal.returns-in-998244352-to-1065353215
+returns-in-998244352-to-1065353215 c = ret-shifted c.args.b (λ e. omega arith) (omega arith) (omega arith)
 
-pub returns-then-b-ge1065353216 : goal.returns-then-b-ge1065353216
-returns-then-b-ge1065353216 c =
-    ret-one _ (finite-field _ c.requires c.if-b-eq2139095040.false) (omega (arith, c.if-b-ge2147483648.false)) c.if-b-ge1065353216.true
+pub returns-in-1065353216-to-2147483647 : goal.returns-in-1065353216-to-2147483647
+returns-in-1065353216-to-2147483647 c = ret-large c.args.b c.requires (omega arith) (omega arith)
 
-pub returns-then-b-lt998244352 : goal.returns-then-b-lt998244352
-returns-then-b-lt998244352 c =
-    ret-none _ (finite-field _ c.requires c.if-b-eq2139095040.false) c.if-b-lt998244352.true
+pub returns-in-4286578688 : goal.returns-in-4286578688
+returns-in-4286578688 c = ret-infinite c.args.b (omega arith)
 
-pub returns-else-b-lt998244352 : goal.returns-else-b-lt998244352
-returns-else-b-lt998244352 c =
-    ret-shifted _ (finite-field _ c.requires c.if-b-eq2139095040.false) (omega (arith, c.if-b-ge1065353216.false)) (omega (arith, c.if-b-lt998244352.false))
+pub returns-in_default : goal.returns-in_default
+returns-in_default c = ret-minus c.args.b (finite-field c.args.b c.requires (λ e. omega arith)) (omega arith)

@@ -1,9 +1,7 @@
--- `partition::larger_of_two` meets its contract: a law for each way out. Assumes nothing.
-use Rattle.partition.specs.PartitionLaws.{two-second, two-first}
+-- `partition::larger_of_two` meets its contract: the comparison as a number is the place of the larger. Assumes nothing.
+use Rattle.partition.specs.PartitionLaws.{pair-by}
+use native.Mathlib.Omega.{arith}
 use Rattle.partition.proofs.larger_of_two.Goals as goal
 
-pub returns-then-a-b : goal.returns-then-a-b
-returns-then-a-b c = search two-second
-
-pub returns-else-a-b : goal.returns-else-a-b
-returns-else-a-b c = search two-first
+pub returns : goal.returns
+returns c = pair-by _ _ 0 0 _ c.from.ensures (omega arith) (omega arith)

@@ -1,22 +1,15 @@
 -- `partition_ramps::ramp_of` meets its contract: the slopes are the factors of the hash, doubled where the standard doubles the coordinates. Assumes nothing.
 use Rattle.partition_ramps.specs.Ramps.{factor}
-use Rattle.std.proofs.Common.{◌+◌, ◌*◌, ap, ◌∙◌, mul-le-mul, arith}
+use Rattle.std.proofs.Common.{◌+◌, ◌*◌, ap, ◌∙◌, arith}
 use Rattle.partition_ramps.specs.RampLaws.{x-bounds, y-bounds, ramp-made}
 use Rattle.partition_ramps.proofs.ramp_of.Goals as goal
 
 pub slope-requires : goal.slope-requires
 slope-requires c = let a = c.args in let b = x-bounds a.seed a.parts in omega (arith, c.shift_x.ensures)
 
-pub overflow_mul-result-2 : goal.overflow_mul-result-2
-overflow_mul-result-2 c = omega (arith, mul-le-mul c.requires.1.1 c.slope.ensures.1)
-
 pub slope-requires-2 : goal.slope-requires-2
 slope-requires-2 c =
     let a = c.args in let b = y-bounds a.seed a.parts in omega (arith, c.shift_y.ensures)
-
-pub overflow_mul-result-3 : goal.overflow_mul-result-3
-overflow_mul-result-3 c =
-    omega (arith, mul-le-mul c.requires.1.1 c.slope-2.ensures.1)
 
 pub returns : goal.returns
 returns c =

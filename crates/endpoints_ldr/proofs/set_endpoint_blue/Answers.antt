@@ -1,6 +1,0 @@
--- `endpoints_ldr::set_endpoint_blue` makes the pair of the contracted colours. Assumes nothing.
-use mathlib.Core.Path.{◌∙◌}
-use Rattle.endpoints_ldr.proofs.set_endpoint_blue.Goals as goal
-
-pub returns : goal.returns
-returns c = c.set_endpoint.ensures ∙ rw (c.contract-2.ensures, c.contract.ensures)
