@@ -1,6 +1,6 @@
 -- What the loops of each kind share: where weights start, the kinds of endpoints, and what a partition has. The definition of a texel's word needs none of them.
 -- Assumes nothing.
-use Rattle.std.specs.Prelude.{◌≡◌, cond, List, [], ◌∷◌, ℕ, ◌+◌, ◌*◌, ◌≤◌, ◌<◌, eqb, get_or}
+use Rattle.std.specs.Prelude.{◌≡◌, cond, List, [], ◌∷◌, ℕ, ◌+◌, ◌*◌, ◌≤◌, ◌<◌, eqb, get_or, Option, None, Some}
 use Rattle.footprint.specs.Footprints.{most_texels}
 use Rattle.endpoints_colours.specs.Colours.{nothing}
 use Rattle.endpoints_colours.specs.declared.Mark.{Mark}
@@ -40,6 +40,12 @@ kind_by Hdr Hdr = 1
 
 abbrev pub kind_of : Endpoints → ℕ
 kind_of e = kind_by e.color e.alpha
+
+-- the kind of one mark for both, or of none
+abbrev pub kind_in : Option Mark → ℕ
+kind_in None = 2
+kind_in (Some Ldr) = 0
+kind_in (Some Hdr) = 1
 
 -- the partitions in use are all of kind k
 abbrev pub AllOf : ℕ → ℕ → List Endpoints → Type 0

@@ -1,5 +1,5 @@
-// What the loops over texels share: where the weights of each channel start, the number of a
-// texel's partition, and one HDR channel.
+// What the loops over texels share: what is known of a block (`BlockData`), where the weights of each
+// channel start, the number of a texel's partition, and one HDR channel.
 #![tactic(auto)]
 
 ghost use Rattle.std.specs.Prelude.{◌≡◌, ◌*◌, ◌≤◌, ◌<◌};
@@ -10,8 +10,15 @@ ghost use Rattle.texels.specs.Kinds.{starts_of, Ahead, either_of, any_of};
 
 use footprint::TEXELS;
 
-// Where the weights of each channel start.
-#[derive(Clone, Copy)]
+mod block;
+
+pub use block::BlockData;
+
+// Where the weights of each channel start. The fields have the names of the channels, as those of
+// `Endpoints` do. `Channels` in texels_hdr and `Four` in texels_numbers have such fields of other
+// types: each stays a record of its own, over which definitions are stated (`starts_of` here,
+// `channels_in` and `four_of` there).
+#[derive(Clone, Copy, Debug, PartialEq, Eq, Hash)]
 pub struct Starts {
     pub r: usize,
     pub g: usize,
@@ -19,31 +26,17 @@ pub struct Starts {
     pub a: usize,
 }
 
-// A cast in a function of its own, so that its caller need not show that the number fits.
-fn u16_of(x: u8) -> u16
-    ensures { (result ≡ x) × (result < 256) }
-{
-    x as u16
-}
-
-fn u32_of(x: u16) -> u32
-    ensures { result ≡ x }
-{
-    x as u32
-}
-
 // Where the weights of channel k start: those of the second plane follow those of all texels in the
-// first.
+// first. A channel is a number here because `plane_of` has it so.
+#[tactic(auto, unfolding(crate::specs::Texels::plane_of))]
 fn start(planes: usize, channel: usize, k: usize) -> usize
     ensures { (result ≡ most_texels * plane_of planes channel k) × (result ≤ most_texels) }
 {
-    if planes == 2 {
-        if channel == k {
-            return TEXELS;
-        }
-        return 0;
+    if planes == 2 && channel == k {
+        TEXELS
+    } else {
+        0
     }
-    0
 }
 
 // Where each channel's weights start, by the number of planes and the channel of the second.
@@ -58,7 +51,8 @@ pub fn starts_of(planes: usize, channel: usize) -> Starts
     }
 }
 
-// The number of partition p, where partition 0 has a and partition 1 has b.
+// The number of partition p, where partition 0 has a and partition 1 has b. It and `any` differ in
+// how many partitions they pick from: by a const parameter they would loop over an array.
 pub fn either(p: u8, a: u16, b: u16) -> u16
     ensures { result ≡ either_of p a b }
 {
@@ -70,22 +64,20 @@ pub fn any(p: u8, a: u16, b: u16, c: u16, d: u16) -> u16
     requires { p < 4 }
     ensures { result ≡ any_of p a b c d 0 }
 {
-    if p == 0 {
-        a
-    } else if p == 1 {
-        b
-    } else if p == 2 {
-        c
-    } else {
-        d
+    match p {
+        0 => a,
+        1 => b,
+        2 => c,
+        _ => d,
     }
 }
 
 // The HDR channel of two endpoints at a weight, from 16-bit numbers as the loops over texels have
-// them.
+// them. `blend::select_color_hdr` takes 32-bit numbers, and the promise of each is stated over its
+// own: widened by every caller it would be no plainer.
 pub fn hdr_channel(v0: u16, v1: u16, w: u8) -> u8
     requires { (v0 < 4096) × (v1 < 4096) × (w ≤ 64) }
     ensures { result ≡ hdr_channel v0 v1 w }
 {
-    blend::select_color_hdr(u32_of(v0), u32_of(v1), u32_of(u16_of(w)))
+    blend::select_color_hdr(u32::from(v0), u32::from(v1), u32::from(w))
 }

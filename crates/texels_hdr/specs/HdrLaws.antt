@@ -1,6 +1,6 @@
 -- The laws of HDR texels, whose channels are painted one after the other.
 -- Assumes nothing.
-use Rattle.std.specs.Prelude.{◌≡◌, refl, List, [], ◌∷◌, ℕ, zero, suc, ◌+◌, ◌-◌, ◌*◌, ◌/◌, ◌≤◌, ◌<◌, get_or, replicate}
+use Rattle.std.specs.Prelude.{◌≡◌, refl, List, ℕ, zero, suc, ◌+◌, ◌-◌, ◌*◌, ◌/◌, ◌≤◌, ◌<◌, get_or, replicate}
 use Rattle.std.proofs.Common.{sym, ap, ◌∙◌, mul-add, arith, lt-ltb}
 use Rattle.laws.specs.Lists.{put, put_same, zeros-at}
 use Rattle.footprint.specs.Footprints.{most_texels}
@@ -14,28 +14,28 @@ use Rattle.endpoints_colours.specs.declared.Endpoints.{Endpoints}
 use Rattle.lanes.specs.Lanes.{lane_at, eights}
 use Rattle.texels.specs.Texels.{channel_by, word_by, texel_word}
 use Rattle.texels.specs.PaintGiven.{PaintGiven}
-use Rattle.texels.specs.Kinds.{starts_of, AllOf, either_of}
+use Rattle.texels.specs.Kinds.{starts_of, AllOf, either_of, any_of}
 use Rattle.lanes.specs.LaneLaws.{put-lanes}
-use Rattle.texels.specs.KindLaws.{both-hdr, any_field, any_entry, either-entry}
+use Rattle.texels.specs.KindLaws.{both-hdr, any_entry, either-entry}
 use Rattle.texels.specs.TexelLaws.{by-starts}
 use Rattle.texels.specs.declared.Starts.{Starts}
-use Rattle.texels_hdr.specs.Channels.{pick, Wide, hdr_at, field_of, numbers, channels, word_among}
+use Rattle.texels_hdr.specs.Channels.{Wide, hdr_at, field_of, numbers_in, channels_in, word_among}
 use Rattle.texels_hdr.specs.declared.Channels.{Channels}
-use Rattle.texels_hdr.specs.declared.Four.{Four}
 use Rattle.texels_hdr.specs.declared.Numbers.{Numbers}
 
 -- ---- the numbers of one channel
-abbrev numbers_in : (Endpoints → ℕ) → (Endpoints → ℕ) → List Endpoints → Numbers
-numbers_in φ ψ ends = numbers φ ψ (get_or ends 0 nothing) (get_or ends 1 nothing) (get_or ends 2 nothing) (get_or ends 3 nothing)
+past : {A : Type 0} {p : ℕ} → suc (suc (suc (suc p))) < 4 → A
+past h = absurd (omega arith)
 
 module _ (φ : Endpoints → ℕ) (ends : List Endpoints) where
-  abbrev fields : Four
-  fields = field_of φ (get_or ends 0 nothing) (get_or ends 1 nothing) (get_or ends 2 nothing) (get_or ends 3 nothing)
+  field_at : (p : ℕ) → p < 4 → get_or (field_of φ ends) p 0 ≡ φ (get_or ends p nothing)
+  field_at zero h = refl
+  field_at (suc zero) h = refl
+  field_at (suc (suc zero)) h = refl
+  field_at (suc (suc (suc zero))) h = refl
+  field_at (suc (suc (suc (suc p)))) h = past h
 
-  field_at : (p : ℕ) → p < 4 → pick fields p ≡ φ (get_or ends p nothing)
-  field_at p h = any_field φ p _ _ _ _ h refl ∙ ap φ (any_entry ends nothing p h)
-
-  field-wide : ((p : ℕ) → φ (get_or ends p nothing) < 4096) → Wide fields
+  field-wide : ((p : ℕ) → φ (get_or ends p nothing) < 4096) → Wide (field_of φ ends)
   field-wide h zero = h 0
   field-wide h (suc zero) = h 1
   field-wide h (suc (suc zero)) = h 2
@@ -56,9 +56,6 @@ numbers-wide φ ψ mark ends e limits within =
     )
 
 -- the numbers of every channel
-abbrev pub channels_in : List Endpoints → Channels
-channels_in ends = channels (get_or ends 0 nothing) (get_or ends 1 nothing) (get_or ends 2 nothing) (get_or ends 3 nothing)
-
 pub record WideAll (v : Channels) : Type 0 where
   pub r : Wide v.r.first × Wide v.r.second
   pub g : Wide v.g.first × Wide v.g.second
@@ -73,24 +70,25 @@ channels-wide ends v e within = record {
   a = numbers-wide (λ (e : Endpoints). e.a0) (λ (e : Endpoints). e.a1) (λ (e : Endpoints). e.alpha) ends (ap (λ (c : Channels). c.a) e) (λ e h. (h.a0, h.a1)) within;
 }
 
--- ---- one partition
-pub hdr-first : (parts n x : ℕ) (a b : Four) (weights partitions out s : List ℕ) → parts ≡ 1 → ((i : ℕ) → get_or partitions i 0 < parts)
-    → out ≡ put (λ (i : ℕ). hdr_channel a.a b.a (get_or weights (x + i) 0)) 0 (eights n) s → out ≡ put (hdr_at a b weights partitions x) 0 (eights n) s
-hdr-first parts n x a b weights partitions out s e mapped h =
-    h ∙ put_same _ _ 0 (eights n) s (λ i l m. let z : get_or partitions i 0 ≡ 0 = omega (arith, mapped i) in rw z)
+-- ---- a texel of one partition and of any, as the code has its numbers
+module _ (a b : List ℕ) (weights partitions : List ℕ) (x i : ℕ) where
+  pub at_first : get_or partitions i 0 < 1 → hdr_channel (get_or a 0 0) (get_or b 0 0) (get_or weights (x + i) 0) ≡ hdr_at a b weights partitions x i
+  at_first h = let z : get_or partitions i 0 ≡ 0 = omega arith in rw z
+
+  pub at_any : get_or partitions i 0 < 4
+      → hdr_channel (any_of (get_or partitions i 0) (get_or a 0 0) (get_or a 1 0) (get_or a 2 0) (get_or a 3 0) 0) (any_of (get_or partitions i 0) (get_or b 0 0) (get_or b 1 0) (get_or b 2 0) (get_or b 3 0) 0) (get_or weights (x + i) 0)
+      ≡ hdr_at a b weights partitions x i
+  at_any h = rw (any_entry a 0 (get_or partitions i 0) h, any_entry b 0 (get_or partitions i 0) h)
 
 -- of two, the number of the partition
-pub either-pick : (f : Four) (p : ℕ) → p < 2 → either_of p f.a f.b ≡ pick f p
-either-pick f p h = either-entry (f.a ∷ f.b ∷ f.c ∷ f.d ∷ []) 0 p h
+pub either-pick : (f : List ℕ) (p : ℕ) → p < 2 → either_of p (get_or f 0 0) (get_or f 1 0) ≡ get_or f p 0
+either-pick f p h = either-entry f 0 p h
 
--- the channel of the numbers picked
-pub two-wide : (a : Four) (p : ℕ) {x : ℕ} → Wide a → p < 2 → x ≡ either_of p a.a a.b → x < 4096
+-- numbers that are picked have 12 bits, as those that they are picked from
+pub two-wide : (a : List ℕ) (p : ℕ) {x : ℕ} → Wide a → p < 2 → x ≡ either_of p (get_or a 0 0) (get_or a 1 0) → x < 4096
 two-wide a p h l e = rw (e, either-pick a p l) (h p)
 
-pub four_is : (a b : Four) (p w : ℕ) {x y r : ℕ} → x ≡ pick a p → y ≡ pick b p → r ≡ hdr_channel x y w → r ≡ hdr_channel (pick a p) (pick b p) w
-four_is a b p w e d h = h ∙ rw (e, d)
-
-pub four-wide : (a : Four) (p : ℕ) {x : ℕ} → Wide a → x ≡ pick a p → x < 4096
+pub four-wide : (a : List ℕ) (p : ℕ) {x : ℕ} → Wide a → x ≡ get_or a p 0 → x < 4096
 four-wide a p h e = rw e (h p)
 
 -- equal endpoints need no weight
@@ -106,6 +104,10 @@ pub hdr-flat-is : (n x v0 v1 : ℕ) (weights out s : List ℕ) → ((i : ℕ) �
 hdr-flat-is n x v0 v1 weights out s low same h =
     h ∙ put_same _ _ 0 (eights n) s (λ i l m. flat v0 (get_or weights (x + i) 0) (low (x + i)) ∙ rw same)
 
+pub at_flat : (a b weights partitions : List ℕ) (x i : ℕ) → get_or weights (x + i) 0 ≤ 64 → get_or a 0 0 ≡ get_or b 0 0 → get_or partitions i 0 < 1
+    → hdr_channel (get_or a 0 0) (get_or a 0 0) 0 ≡ hdr_at a b weights partitions x i
+at_flat a b weights partitions x i low same h = flat (get_or a 0 0) (get_or weights (x + i) 0) low ∙ ap (λ (z : ℕ). hdr_channel (get_or a 0 0) z (get_or weights (x + i) 0)) same ∙ at_first a b weights partitions x i h
+
 -- ---- a texel
 hdr-word : (e : Endpoints) (r g b a : ℕ) → e.color ≡ Hdr → e.alpha ≡ Hdr
     → word_of (hdr_channel e.r0 e.r1 r) (hdr_channel e.g0 e.g1 g) (hdr_channel e.b0 e.b1 b) (hdr_channel e.a0 e.a1 a) ≡ word_by e r g b a
@@ -119,7 +121,7 @@ module _ (n parts planes channel : ℕ) (ends : List Endpoints) (weights partiti
   channel-at φ ψ v x i s e h l =
       let p : get_or partitions i 0 < 4 = omega (arith, given.mapped i, given.four) in
       let m : eights n ≤ most_texels = omega (arith, given.few) in
-      let f = hdr_at (fields φ ends) (fields ψ ends) weights partitions x in
+      let f = hdr_at (field_of φ ends) (field_of ψ ends) weights partitions x in
       let t : s ≡ put f 0 (eights n) (replicate most_texels 0) = rw e at h in
       rw (t, zeros-at f (eights n) most_texels i m, lt-ltb i (eights n) l, field_at φ ends (get_or partitions i 0) p, field_at ψ ends (get_or partitions i 0) p)
 

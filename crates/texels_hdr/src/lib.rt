@@ -4,36 +4,26 @@
 ghost use Rattle.std.specs.Prelude.{◌≡◌, ℕ, ◌+◌, ◌*◌, ◌≤◌, ◌<◌, get_or};
 ghost use Rattle.laws.specs.Lists.{put};
 ghost use Rattle.footprint.specs.Footprints.{most_texels};
-ghost use Rattle.blend.specs.Blend.{hdr_channel};
 ghost use Rattle.lanes.specs.Lanes.{lane_at, eights};
 ghost use Rattle.texels.specs.Texels.{texel_word};
-ghost use Rattle.texels.specs.PaintGiven.{PaintGiven};
 ghost use Rattle.texels.specs.Kinds.{AllOf};
-ghost use Rattle.texels_hdr.specs.Channels.{Wide, hdr_at, channels, word_among};
+ghost use Rattle.texels_hdr.specs.Channels.{Wide, hdr_at, channels_in, word_among};
 
 use endpoints_colours::Endpoints;
-use footprint::{TEXELS, WEIGHTS};
+use footprint::TEXELS;
 use lanes::{LANES, eights};
-use texels::{any, either, hdr_channel, starts_of};
+use texels::{BlockData, any, either, hdr_channel, starts_of};
 
-// One number for each of four partitions.
-#[derive(Clone, Copy)]
-pub struct Four {
-    pub a: u16,
-    pub b: u16,
-    pub c: u16,
-    pub d: u16,
-}
-
-// The numbers of one channel in each partition, at both ends.
-#[derive(Clone, Copy)]
+// The numbers of one channel in each partition, at both ends. `Pair` in texels_samples has the ends of
+// one partition: `channels_in` is stated over lists of numbers, and `pairs_of` over pairs.
+#[derive(Clone, Copy, Debug, PartialEq, Eq, Hash)]
 pub struct Numbers {
-    pub first: Four,
-    pub second: Four,
+    pub first: [u16; 4],
+    pub second: [u16; 4],
 }
 
 // The numbers of red, green, blue and alpha in each partition.
-#[derive(Clone, Copy)]
+#[derive(Clone, Copy, Debug, PartialEq, Eq, Hash)]
 pub struct Channels {
     pub r: Numbers,
     pub g: Numbers,
@@ -41,272 +31,126 @@ pub struct Channels {
     pub a: Numbers,
 }
 
-// A cast in a function of its own, so that its caller need not show that the number fits.
-fn u16_of(x: u8) -> u16
-    ensures { (result ≡ x) × (result < 256) }
+// Puts one HDR channel of n texels, to the next multiple of 8, which `channel` gives. It is compiled
+// anew for each number of partitions. `weights_unquantise` has such a loop for another length, and
+// `texels_samples` one for lanes: `put` is of lists of numbers, so that a contract with a type
+// parameter cannot speak of it. By a const length the loops over bytes would be one public function of
+// a low crate, with a promise of its own for a loop of one line, which is no plainer.
+fn put_bytes<F: Fn(usize) -> u8>(out: &mut [u8; TEXELS], n: usize, channel: F)
+    requires few { n ≤ most_texels }
+    requires callable { (i : ℕ) → i < most_texels → F.pre channel i }
+    ensures { (f : ℕ → ℕ) → ((i r : ℕ) → i < most_texels → F.post channel i r → r ≡ f i) →
+        out.new ≡ put f 0 (eights n) out.old }
 {
-    x as u16
-}
-
-// Puts one HDR channel of n texels that are all of one partition. Their weights start at x.
-fn hdr_one(out: &mut [u8; TEXELS], n: usize, w: &[u8; WEIGHTS], x: usize, v0: u16, v1: u16)
-    requires n_le_most_texels { (n ≤ most_texels) × (x ≤ most_texels) × (v0 < 4096) × (v1 < 4096) }
-    requires by_index { (i : ℕ) → get_or w.now i 0 ≤ 64 }
-    ensures { out.new ≡
-        put (λ (i : ℕ). hdr_channel v0 v1 (get_or w.now (x + i) 0)) 0 (eights n)
-        out.old }
-{
-    let m = eights(n);
-    let mut i = 0;
-    while i < m {
-        out[i] = hdr_channel(v0, v1, w[x + i]);
-        i += 1;
+    for i in 0..eights(n) {
+        out[i] = channel(i);
     }
 }
 
-// Puts one HDR channel of n texels where both endpoints have the number v. No weight changes it
-// then: it is the alpha of an opaque colour.
-fn hdr_flat(out: &mut [u8; TEXELS], n: usize, v: u16)
-    requires { (n ≤ most_texels) × (v < 4096) }
+// Puts one HDR channel of all texels, whose weights start at x, by its numbers in the partitions in
+// use. The numbers are read before the loops, which would read them anew after each store. Where
+// both ends of one partition are equal no weight changes the channel: it is the alpha of an opaque
+// colour.
+fn hdr_bytes(out: &mut [u8; TEXELS], d: &BlockData, x: usize, v: Numbers)
+    requires place { x ≤ most_texels }
+    requires wide { Wide v.first × Wide v.second }
     ensures { out.new ≡
-        put (λ (i : ℕ). hdr_channel v v 0) 0 (eights n) out.old }
-{
-    let x = hdr_channel(v, v, 0);
-    let m = eights(n);
-    let mut i = 0;
-    while i < m {
-        out[i] = x;
-        i += 1;
-    }
-}
-
-// Puts one HDR channel of n texels of two partitions, whose endpoints are in a and b. These are
-// read before the loop, which would read them anew after each store.
-fn hdr_two(
-    out: &mut [u8; TEXELS],
-    n: usize,
-    w: &[u8; WEIGHTS],
-    x: usize,
-    partitions: &[u8; TEXELS],
-    a: Four,
-    b: Four,
-)
-    requires n_le_most_texels { (n ≤ most_texels) × (x ≤ most_texels) × Wide a × Wide b }
-    requires by_index { (i : ℕ) → get_or w.now i 0 ≤ 64 }
-    requires by_index_2 { (i : ℕ) → get_or partitions.now i 0 < 2 }
-    ensures { out.new ≡
-        put (hdr_at a b w.now partitions.now x) 0 (eights n)
+        put (hdr_at v.first v.second d.now.weights.now d.now.partition.now x) 0 (eights d.now.n)
         out.old }
 {
-    let a0 = a.a;
-    let a1 = a.b;
-    let b0 = b.a;
-    let b1 = b.b;
-    let m = eights(n);
-    let mut i = 0;
-    while i < m {
-        let p = partitions[i];
-        out[i] = hdr_channel(either(p, a0, a1), either(p, b0, b1), w[x + i]);
-        i += 1;
-    }
-}
-
-// Puts one HDR channel of n texels of up to four partitions.
-fn hdr_four(
-    out: &mut [u8; TEXELS],
-    n: usize,
-    w: &[u8; WEIGHTS],
-    x: usize,
-    partitions: &[u8; TEXELS],
-    a: Four,
-    b: Four,
-)
-    requires n_le_most_texels { (n ≤ most_texels) × (x ≤ most_texels) × Wide a × Wide b }
-    requires by_index { (i : ℕ) → get_or w.now i 0 ≤ 64 }
-    requires by_index_2 { (i : ℕ) → get_or partitions.now i 0 < 4 }
-    ensures { out.new ≡
-        put (hdr_at a b w.now partitions.now x) 0 (eights n)
-        out.old }
-{
-    let a0 = a.a;
-    let a1 = a.b;
-    let a2 = a.c;
-    let a3 = a.d;
-    let b0 = b.a;
-    let b1 = b.b;
-    let b2 = b.c;
-    let b3 = b.d;
-    let m = eights(n);
-    let mut i = 0;
-    while i < m {
-        let p = partitions[i];
-        out[i] = hdr_channel(any(p, a0, a1, a2, a3), any(p, b0, b1, b2, b3), w[x + i]);
-        i += 1;
-    }
-}
-
-// Puts one HDR channel of n texels of one partition, by the loop for equal endpoints or the one for
-// any.
-fn hdr_single(out: &mut [u8; TEXELS], n: usize, w: &[u8; WEIGHTS], x: usize, v0: u16, v1: u16)
-    requires n_le_most_texels { (n ≤ most_texels) × (x ≤ most_texels) × (v0 < 4096) × (v1 < 4096) }
-    requires by_index { (i : ℕ) → get_or w.now i 0 ≤ 64 }
-    ensures { out.new ≡
-        put (λ (i : ℕ). hdr_channel v0 v1 (get_or w.now (x + i) 0)) 0 (eights n)
-        out.old }
-{
-    if v0 == v1 {
-        return hdr_flat(out, n, v0);
-    }
-    hdr_one(out, n, w, x, v0, v1);
-}
-
-// Puts one HDR channel of n texels, by its numbers in the partitions in use.
-fn hdr_bytes<'a>(
-    out: &mut [u8; TEXELS],
-    n: usize,
-    parts: usize,
-    w: &'a [u8; WEIGHTS],
-    x: usize,
-    partitions: &'a [u8; TEXELS],
-    v: Numbers,
-)
-    requires n_le_most_texels { (n ≤ most_texels) × (parts ≤ 4) × (x ≤ most_texels) × Wide v.first ×
-        Wide v.second }
-    requires by_index { (i : ℕ) → get_or w.now i 0 ≤ 64 }
-    requires by_index_2 { (i : ℕ) → get_or partitions.now i 0 < parts }
-    ensures { out.new ≡
-        put (hdr_at v.first v.second w.now partitions.now x) 0 (eights n)
-        out.old }
-{
-    let a = v.first;
-    let b = v.second;
-    match parts {
-        1 => hdr_single(out, n, w, x, a.a, b.a),
-        2 => hdr_two(out, n, w, x, partitions, a, b),
-        _ => hdr_four(out, n, w, x, partitions, a, b),
+    let w = d.weights;
+    let p = d.partition;
+    let [a0, a1, a2, a3] = v.first;
+    let [b0, b1, b2, b3] = v.second;
+    match d.parts {
+        1 if a0 == b0 => {
+            let c = hdr_channel(a0, a0, 0);
+            put_bytes(out, d.n, move |_| c)
+        }
+        1 => put_bytes(out, d.n, move |i| hdr_channel(a0, b0, w[x + i])),
+        2 => put_bytes(out, d.n, move |i| {
+            hdr_channel(either(p[i], a0, a1), either(p[i], b0, b1), w[x + i])
+        }),
+        _ => put_bytes(out, d.n, move |i| {
+            hdr_channel(
+                any(p[i], a0, a1, a2, a3),
+                any(p[i], b0, b1, b2, b3),
+                w[x + i],
+            )
+        }),
     }
 }
 
 // The numbers of each channel in the endpoints of four partitions.
-fn channels_of(e: Endpoints, f: Endpoints, g: Endpoints, h: Endpoints) -> Channels
-    ensures { result ≡ channels e f g h }
+fn channels_of(ends: [Endpoints; 4]) -> Channels
+    ensures { result ≡ channels_in ends }
 {
+    let [e, f, g, h] = ends;
     Channels {
         r: Numbers {
-            first: Four {
-                a: e.r0,
-                b: f.r0,
-                c: g.r0,
-                d: h.r0,
-            },
-            second: Four {
-                a: e.r1,
-                b: f.r1,
-                c: g.r1,
-                d: h.r1,
-            },
+            first: [e.r0, f.r0, g.r0, h.r0],
+            second: [e.r1, f.r1, g.r1, h.r1],
         },
         g: Numbers {
-            first: Four {
-                a: e.g0,
-                b: f.g0,
-                c: g.g0,
-                d: h.g0,
-            },
-            second: Four {
-                a: e.g1,
-                b: f.g1,
-                c: g.g1,
-                d: h.g1,
-            },
+            first: [e.g0, f.g0, g.g0, h.g0],
+            second: [e.g1, f.g1, g.g1, h.g1],
         },
         b: Numbers {
-            first: Four {
-                a: e.b0,
-                b: f.b0,
-                c: g.b0,
-                d: h.b0,
-            },
-            second: Four {
-                a: e.b1,
-                b: f.b1,
-                c: g.b1,
-                d: h.b1,
-            },
+            first: [e.b0, f.b0, g.b0, h.b0],
+            second: [e.b1, f.b1, g.b1, h.b1],
         },
         a: Numbers {
-            first: Four {
-                a: e.a0,
-                b: f.a0,
-                c: g.a0,
-                d: h.a0,
-            },
-            second: Four {
-                a: e.a1,
-                b: f.a1,
-                c: g.a1,
-                d: h.a1,
-            },
+            first: [e.a0, f.a0, g.a0, h.a0],
+            second: [e.a1, f.a1, g.a1, h.a1],
         },
     }
 }
 
-// A lane of two channels, the first of them the low byte.
+// A lane of two channels, the first of them the low byte: a sum, as `lane_at` takes it apart, which
+// `from_le_bytes` on an array of two would not make plainer.
 fn joined(low: u8, high: u8) -> u16
     ensures { (result ≡ low + 256 * high) × (low < 256) × (high < 256) }
 {
-    u16_of(low) + 256 * u16_of(high)
+    u16::from(low) + 256 * u16::from(high)
 }
 
-// Puts the words of n texels from their four channels.
-fn join_all<'a>(
+// Puts the words of n texels from their four channels. The four arrays are parameters and no record:
+// `word_among` is stated over them, and a record would copy them or refer to them.
+fn join_all(
     out: &mut [u16; LANES],
     n: usize,
-    r: &'a [u8; TEXELS],
-    g: &'a [u8; TEXELS],
-    b: &'a [u8; TEXELS],
-    a: &'a [u8; TEXELS],
+    r: &[u8; TEXELS],
+    g: &[u8; TEXELS],
+    b: &[u8; TEXELS],
+    a: &[u8; TEXELS],
 )
     requires { n ≤ most_texels }
     ensures { out.new ≡
         put (lane_at (word_among r.now g.now b.now a.now))
         0 (2 * eights n) out.old }
 {
-    let m = eights(n);
-    let mut i = 0;
-    while i < m {
+    for i in 0..eights(n) {
         out[2 * i] = joined(b[i], g[i]);
         out[2 * i + 1] = joined(r[i], a[i]);
-        i += 1;
     }
 }
 
 // Puts the words of n HDR texels, one channel after the other, so that a loop has one kind of work.
-pub fn paint_hdr<'a>(
-    out: &mut [u16; LANES],
-    n: usize,
-    parts: usize,
-    planes: usize,
-    channel: usize,
-    ends: [Endpoints; 4],
-    w: &'a [u8; WEIGHTS],
-    partitions: &'a [u8; TEXELS],
-)
-    requires paint_given { PaintGiven n parts planes ends w.now partitions.now }
-    requires all_of { AllOf 1 parts ends }
+pub fn paint_hdr(out: &mut [u16; LANES], d: &BlockData)
+    requires { AllOf 1 d.now.parts d.now.endpoints }
     ensures { out.new ≡
-        put (lane_at (texel_word ends w.now partitions.now planes channel)) 0
-        (2 * eights n) out.old }
+        put (lane_at (texel_word d.now.endpoints d.now.weights.now d.now.partition.now d.now.planes
+        d.now.channel)) 0 (2 * eights d.now.n) out.old }
 {
-    let k = starts_of(planes, channel);
-    let v = channels_of(ends[0], ends[1], ends[2], ends[3]);
+    let k = starts_of(d.planes, d.channel);
+    let v = channels_of(d.endpoints);
     let mut red = [0u8; TEXELS];
     let mut green = [0u8; TEXELS];
     let mut blue = [0u8; TEXELS];
     let mut alpha = [0u8; TEXELS];
-    hdr_bytes(&mut red, n, parts, w, k.r, partitions, v.r);
-    hdr_bytes(&mut green, n, parts, w, k.g, partitions, v.g);
-    hdr_bytes(&mut blue, n, parts, w, k.b, partitions, v.b);
-    hdr_bytes(&mut alpha, n, parts, w, k.a, partitions, v.a);
-    join_all(out, n, &red, &green, &blue, &alpha);
+    hdr_bytes(&mut red, d, k.r, v.r);
+    hdr_bytes(&mut green, d, k.g, v.g);
+    hdr_bytes(&mut blue, d, k.b, v.b);
+    hdr_bytes(&mut alpha, d, k.a, v.a);
+    join_all(out, d.n, &red, &green, &blue, &alpha);
 }

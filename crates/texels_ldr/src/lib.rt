@@ -1,51 +1,25 @@
-// LDR texels, eight at once, by the number of partitions and planes.
+// LDR texels, eight at once, by the number of partitions and planes. The loop asks for n ≤
+// most_texels, which `BlockData` has as a ghost field, because it takes n alone: what a loop needs is
+// read before it.
 #![tactic(auto)]
 
-ghost use Rattle.std.specs.Prelude.{◌≡◌, ℕ, ◌*◌, ◌≤◌, ◌<◌, get_or};
+ghost use Rattle.std.specs.Prelude.{◌≡◌, ℕ, ◌+◌, ◌*◌, ◌/◌, ◌%◌, ◌≤◌, ◌<◌, get_or};
 ghost use Rattle.laws.specs.Lists.{put};
 ghost use Rattle.footprint.specs.Footprints.{most_texels};
 ghost use Rattle.endpoints_colours.specs.Colours.{nothing};
 ghost use Rattle.lanes.specs.Lanes.{lane_at, eights};
-ghost use Rattle.texels.specs.Texels.{texel_word};
-ghost use Rattle.texels.specs.PaintGiven.{PaintGiven};
+ghost use Rattle.texels.specs.Texels.{texel_word, word_by};
 ghost use Rattle.texels.specs.Kinds.{Ahead, word_at, AllOf, either_of, any_of};
-ghost use Rattle.texels_ldr.specs.Plain.{WeightsAt, word_one, Plain, ldr_pair};
+ghost use Rattle.texels_ldr.specs.Plain.{Plain, word_one, ldr_pair};
 
 use endpoints_colours::{Endpoints, Mark};
-use footprint::{TEXELS, WEIGHTS};
+use footprint::WEIGHTS;
 use lanes::{LANES, eights};
-use texels::{Starts, any, either, starts_of};
+use texels::{BlockData, Starts, any, either, starts_of};
 
-// The weights of a texel's channels.
-#[derive(Clone, Copy)]
-pub struct Weights {
-    pub r: u16,
-    pub g: u16,
-    pub b: u16,
-    pub a: u16,
-}
-
-// A cast in a function of its own, so that its caller need not show that the number fits.
-fn u16_of(x: u8) -> u16
-    ensures { (result ≡ x) × (result < 256) }
-{
-    x as u16
-}
-
-fn weights_at(w: &[u8; WEIGHTS], k: Starts, i: usize) -> Weights
-    requires fact_1 { Ahead k × (i < most_texels) }
-    requires fact_2 { ((i : ℕ) → get_or w.now i 0 ≤ 64) }
-    ensures { WeightsAt w.now k i result }
-{
-    Weights {
-        r: u16_of(w[k.r + i]),
-        g: u16_of(w[k.g + i]),
-        b: u16_of(w[k.b + i]),
-        a: u16_of(w[k.a + i]),
-    }
-}
-
-// A lane of two blended LDR channels, the first of them the low byte.
+// A lane of two blended LDR channels, the first of them the low byte: a sum, as `ldr_pair` has it,
+// where `from_le_bytes` would need casts to bytes. The ends and weights are one number each, which
+// vector code holds apart; records of two would be made for this call alone.
 fn pair(x0: u16, x1: u16, y0: u16, y1: u16, v: u16, w: u16) -> u16
     requires { (x0 ≤ 255) × (x1 ≤ 255) × (y0 ≤ 255) × (y1 ≤ 255) × (v ≤ 64) × (w ≤ 64) }
     ensures { result ≡ ldr_pair x0 x1 y0 y1 v w }
@@ -53,41 +27,44 @@ fn pair(x0: u16, x1: u16, y0: u16, y1: u16, v: u16, w: u16) -> u16
     blend::select_color_byte(x0, x1, v) + 256 * blend::select_color_byte(y0, y1, w)
 }
 
-// Puts the words of n LDR texels of one partition and one plane.
-fn paint_one(out: &mut [u16; LANES], n: usize, w: &[u8; WEIGHTS], e: Endpoints)
-    requires fact_1 { (n ≤ most_texels) × Plain e }
-    requires fact_2 { ((i : ℕ) → get_or w.now i 0 ≤ 64) }
-    ensures { out.new ≡
-        put (lane_at (word_one e w.now)) 0 (2 * eights n) out.old }
+// The two lanes of a texel's word, between LDR endpoints at a weight for each channel.
+fn lanes_between(e: Endpoints, r: u8, g: u8, b: u8, a: u8) -> (u16, u16)
+    requires { Plain e × (r ≤ 64) × (g ≤ 64) × (b ≤ 64) × (a ≤ 64) }
+    ensures low { result.0 ≡ word_by e r g b a % 65536 }
+    ensures high { result.1 ≡ word_by e r g b a / 65536 }
 {
-    let m = eights(n);
-    let mut i = 0;
-    while i < m {
-        let x = u16_of(w[i]);
-        out[2 * i] = pair(e.b0, e.b1, e.g0, e.g1, x, x);
-        out[2 * i + 1] = pair(e.r0, e.r1, e.a0, e.a1, x, x);
-        i += 1;
-    }
+    (
+        pair(e.b0, e.b1, e.g0, e.g1, u16::from(b), u16::from(g)),
+        pair(e.r0, e.r1, e.a0, e.a1, u16::from(r), u16::from(a)),
+    )
 }
 
-// Puts the words of n LDR texels of one partition, each channel by the weights of its plane.
-fn paint_planes(out: &mut [u16; LANES], n: usize, w: &[u8; WEIGHTS], k: Starts, e: Endpoints)
-    requires fact_1 { (n ≤ most_texels) × Ahead k × Plain e }
-    requires fact_2 { ((i : ℕ) → get_or w.now i 0 ≤ 64) }
-    ensures { out.new ≡
-        put (lane_at (word_at e w.now k)) 0 (2 * eights n) out.old }
+// The two lanes of texel i's word, all channels by the weights of one plane. By `lanes_at`, with
+// starts of 0, it would be no plainer and would read the weight four times.
+fn lanes_one(e: Endpoints, w: &[u8; WEIGHTS], i: usize) -> (u16, u16)
+    requires ends { Plain e }
+    requires place { i < most_texels }
+    requires light { (j : ℕ) → get_or w.now j 0 ≤ 64 }
+    ensures low { result.0 ≡ word_one e w.now i % 65536 }
+    ensures high { result.1 ≡ word_one e w.now i / 65536 }
 {
-    let m = eights(n);
-    let mut i = 0;
-    while i < m {
-        let v = weights_at(w, k, i);
-        out[2 * i] = pair(e.b0, e.b1, e.g0, e.g1, v.b, v.g);
-        out[2 * i + 1] = pair(e.r0, e.r1, e.a0, e.a1, v.r, v.a);
-        i += 1;
-    }
+    let x = w[i];
+    lanes_between(e, x, x, x, x)
 }
 
-// The LDR endpoints of partition p, where partition 0 has a and partition 1 has b.
+// The two lanes of texel i's word, each channel by the weights of its plane.
+fn lanes_at(e: Endpoints, w: &[u8; WEIGHTS], k: Starts, i: usize) -> (u16, u16)
+    requires ends { Plain e }
+    requires place { Ahead k × (i < most_texels) }
+    requires light { (j : ℕ) → get_or w.now j 0 ≤ 64 }
+    ensures low { result.0 ≡ word_at e w.now k i % 65536 }
+    ensures high { result.1 ≡ word_at e w.now k i / 65536 }
+{
+    lanes_between(e, w[k.r + i], w[k.g + i], w[k.b + i], w[k.a + i])
+}
+
+// The LDR endpoints of partition p, where partition 0 has a and partition 1 has b. This function and
+// `any_of` pick every number by itself, as vector code does. They stay two as `either` and `any` do.
 fn either_of(p: u8, a: Endpoints, b: Endpoints) -> Endpoints
     requires { Plain (either_of p a b) }
     ensures { result ≡ either_of p a b }
@@ -103,33 +80,6 @@ fn either_of(p: u8, a: Endpoints, b: Endpoints) -> Endpoints
         a1: either(p, a.a1, b.a1),
         color: Mark::Ldr,
         alpha: Mark::Ldr,
-    }
-}
-
-// Puts the words of n LDR texels of two partitions and one plane.
-fn paint_two(
-    out: &mut [u16; LANES],
-    n: usize,
-    w: &[u8; WEIGHTS],
-    partitions: &[u8; TEXELS],
-    e: Endpoints,
-    f: Endpoints,
-)
-    requires fact_1 { (n ≤ most_texels) × Plain e × Plain f }
-    requires fact_2 { ((i : ℕ) → get_or w.now i 0 ≤ 64) }
-    ensures { out.new ≡
-        put (lane_at
-        (λ (i : ℕ). word_one (either_of (get_or partitions.now i 0) e f) w.now i))
-        0 (2 * eights n) out.old }
-{
-    let m = eights(n);
-    let mut i = 0;
-    while i < m {
-        let v = u16_of(w[i]);
-        let x = either_of(partitions[i], e, f);
-        out[2 * i] = pair(x.b0, x.b1, x.g0, x.g1, v, v);
-        out[2 * i + 1] = pair(x.r0, x.r1, x.a0, x.a1, v, v);
-        i += 1;
     }
 }
 
@@ -152,67 +102,45 @@ fn any_of(p: u8, a: Endpoints, b: Endpoints, c: Endpoints, d: Endpoints) -> Endp
     }
 }
 
-// Puts the words of n LDR texels of up to four partitions, each channel by the weights of its
-// plane.
-fn paint_four(
-    out: &mut [u16; LANES],
-    n: usize,
-    w: &[u8; WEIGHTS],
-    k: Starts,
-    partitions: &[u8; TEXELS],
-    ends: [Endpoints; 4],
-)
-    requires n_le_most_texels { (n ≤ most_texels) × Ahead k }
-    requires by_index { (i : ℕ) → get_or w.now i 0 ≤ 64 }
-    requires by_index_2 { (i : ℕ) → get_or partitions.now i 0 < 4 }
-    requires by_index_3 { (i : ℕ) → Plain (get_or ends (get_or partitions.now i 0) nothing) }
-    ensures { out.new ≡
-        put (lane_at
-        (λ (i : ℕ). word_at (get_or ends (get_or partitions.now i 0) nothing) w.now
-        k i)) 0 (2 * eights n) out.old }
+// Puts the words of n texels, to the next multiple of 8, whose two lanes `lanes_of` gives. It is
+// compiled anew for each number of partitions and planes.
+fn put_words<F: Fn(usize) -> (u16, u16)>(out: &mut [u16; LANES], n: usize, lanes_of: F)
+    requires few { n ≤ most_texels }
+    requires callable { (i : ℕ) → i < most_texels → F.pre lanes_of i }
+    ensures { (f : ℕ → ℕ) → ((i : ℕ) (r : ℕ × ℕ) → i < most_texels → F.post lanes_of i r →
+        (r.0 ≡ f i % 65536) × (r.1 ≡ f i / 65536)) → out.new ≡
+        put (lane_at f) 0 (2 * eights n) out.old }
 {
-    let e0 = ends[0];
-    let e1 = ends[1];
-    let e2 = ends[2];
-    let e3 = ends[3];
-    let m = eights(n);
-    let mut i = 0;
-    while i < m {
-        let v = weights_at(w, k, i);
-        let x = any_of(partitions[i], e0, e1, e2, e3);
-        out[2 * i] = pair(x.b0, x.b1, x.g0, x.g1, v.b, v.g);
-        out[2 * i + 1] = pair(x.r0, x.r1, x.a0, x.a1, v.r, v.a);
-        i += 1;
+    for i in 0..eights(n) {
+        let (low, high) = lanes_of(i);
+        out[2 * i] = low;
+        out[2 * i + 1] = high;
     }
 }
 
 // Puts the words of n LDR texels, by the loop for as few partitions and planes as the block has.
-pub fn paint_ldr<'a>(
-    out: &mut [u16; LANES],
-    n: usize,
-    parts: usize,
-    planes: usize,
-    channel: usize,
-    ends: [Endpoints; 4],
-    w: &'a [u8; WEIGHTS],
-    partitions: &'a [u8; TEXELS],
-)
-    requires paint_given { PaintGiven n parts planes ends w.now partitions.now }
-    requires all_of { AllOf 0 parts ends }
+// What a loop needs is read before it, where a loop would read it anew after each store.
+pub fn paint_ldr(out: &mut [u16; LANES], d: &BlockData)
+    requires { AllOf 0 d.now.parts d.now.endpoints }
     ensures { out.new ≡
-        put (lane_at (texel_word ends w.now partitions.now planes channel)) 0
-        (2 * eights n) out.old }
+        put (lane_at (texel_word d.now.endpoints d.now.weights.now d.now.partition.now d.now.planes
+        d.now.channel)) 0 (2 * eights d.now.n) out.old }
 {
-    if parts == 1 {
-        if planes == 1 {
-            return paint_one(out, n, w, ends[0]);
-        }
-        return paint_planes(out, n, w, starts_of(planes, channel), ends[0]);
+    let w = d.weights;
+    let p = d.partition;
+    let k = starts_of(d.planes, d.channel);
+    let e0 = d.endpoints[0];
+    let e1 = d.endpoints[1];
+    let e2 = d.endpoints[2];
+    let e3 = d.endpoints[3];
+    match (d.parts, d.planes) {
+        (1, 1) => put_words(out, d.n, move |i| lanes_one(e0, w, i)),
+        (1, _) => put_words(out, d.n, move |i| lanes_at(e0, w, k, i)),
+        (2, 1) => put_words(out, d.n, move |i| lanes_one(either_of(p[i], e0, e1), w, i)),
+        _ => put_words(
+            out,
+            d.n,
+            move |i| lanes_at(any_of(p[i], e0, e1, e2, e3), w, k, i),
+        ),
     }
-    if parts == 2 {
-        if planes == 1 {
-            return paint_two(out, n, w, partitions, ends[0], ends[1]);
-        }
-    }
-    paint_four(out, n, w, starts_of(planes, channel), partitions, ends);
 }

@@ -1,8 +1,9 @@
 -- The laws of numbers that come four a texel: the four stores of a turn, and what they depend on.
 -- Assumes nothing.
-use Rattle.std.specs.Prelude.{◌≡◌, List, [], ◌∷◌, ℕ, ◌+◌, ◌*◌, ◌/◌, ◌%◌, ◌<◌, get_or}
-use Rattle.std.proofs.Common.{sym, ap, ◌∙◌, zero-le, arith}
-use Rattle.laws.specs.Lists.{put, put-turn, put_same}
+use Rattle.std.specs.Prelude.{◌≡◌, refl, List, [], ◌∷◌, ℕ, zero, suc, ◌+◌, ◌*◌, ◌/◌, ◌%◌, ◌≤◌, ◌<◌, get_or, length, replicate, drop, ◌++◌}
+use Rattle.std.proofs.Common.{sym, ap, ◌∙◌, zero-le, add-one, arith}
+use Rattle.std.proofs.lemmas.List.Edits.{fill_more}
+use Rattle.laws.specs.Lists.{put, put-none, put-turn, put_same}
 use Rattle.channels.specs.Channels.{number_of}
 use Rattle.channels.specs.declared.Samples.{Samples}
 use Rattle.texels_numbers.specs.Numbers.{four_of, fours, four_at}
@@ -33,3 +34,10 @@ module _ (f : ℕ → Four) (i : ℕ) where
 pub fours-same : (f g : ℕ → Four) (n : ℕ) (s : List ℕ) → ((i : ℕ) → i < n → f i ≡ g i) → put (fours f) 0 (4 * n) s ≡ put (fours g) 0 (4 * n) s
 unfolding fours
 fours-same f g n s same = put_same _ _ 0 (4 * n) s (λ j l h. ap (λ (x : Four). get_or (x.r ∷ x.g ∷ x.b ∷ x.a ∷ []) (j % 4) 0) (same (j / 4) (omega arith)))
+
+-- one number in the first n places
+pub filled_is : (w n : ℕ) (s : List ℕ) → n ≤ length s → replicate n w ++ drop n s ≡ put (λ (i : ℕ). w) 0 n s
+filled_is w zero s h = put-none (λ (i : ℕ). w) 0 s
+filled_is w (suc n) s h =
+    let l : n < length s = omega arith in
+    rw add-one at (sym (fill_more n w s l) ∙ put-turn (λ (i : ℕ). w) 0 n w s _ (filled_is w n s (omega arith)) zero-le refl)

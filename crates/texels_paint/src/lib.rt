@@ -1,79 +1,53 @@
 // Painting: the words of a block's texels from its endpoints, weights and partitions.
 #![tactic(auto)]
 
-ghost use Rattle.std.specs.Prelude.{◌≡◌, ◌*◌, ◌≤◌, ◌<◌};
+ghost use Rattle.std.specs.Prelude.{◌≡◌, ◌*◌, ◌≤◌, ◌<◌, IfSome, Some};
 ghost use Rattle.laws.specs.Lists.{put};
 ghost use Rattle.lanes.specs.Lanes.{lane_at, eights};
 ghost use Rattle.texels.specs.Texels.{texel_word};
-ghost use Rattle.texels.specs.PaintGiven.{PaintGiven};
-ghost use Rattle.texels.specs.Kinds.{kind_of, AllOf};
+ghost use Rattle.texels.specs.Kinds.{kind_of, kind_in, AllOf};
 
 use endpoints_colours::{Endpoints, Mark};
-use footprint::{TEXELS, WEIGHTS};
 use lanes::LANES;
-use texels::starts_of;
+use texels::BlockData;
 
 mod mixed;
 
-// 0 where both marks are LDR, 1 where both are HDR, else 2.
-fn kind_of(e: Endpoints) -> u8
-    ensures { result ≡ kind_of e }
+// The one mark of a partition's colour and alpha, where they have one.
+fn kind_of(e: Endpoints) -> Option<Mark>
+    ensures { kind_in result ≡ kind_of e }
 {
-    let c = e.color;
-    let a = e.alpha;
-    match c {
-        Mark::Ldr => match a {
-            Mark::Ldr => 0,
-            Mark::Hdr => 2,
-        },
-        Mark::Hdr => match a {
-            Mark::Ldr => 2,
-            Mark::Hdr => 1,
-        },
+    if e.color == e.alpha {
+        Some(e.color)
+    } else {
+        None
     }
 }
 
-// The one kind of the partitions in use, and 2 where they differ.
-fn common_kind(parts: usize, ends: [Endpoints; 4]) -> u8
-    requires { (1 ≤ parts) × (parts ≤ 4) }
-    ensures { result < 2 → AllOf result parts ends }
+// The one mark of all partitions in use, where they have one. `all` would give a bool, which then had
+// to be turned into the mark or None: no plainer.
+fn common_kind(d: &BlockData) -> Option<Mark>
+    ensures { IfSome result (λ m. AllOf (kind_in (Some m)) d.now.parts d.now.endpoints) }
 {
-    let k = kind_of(ends[0]);
-    let mut p = 1;
-    while p < parts {
-        let e = ends[p];
-        if kind_of(e) != k {
-            return 2;
+    let kind = kind_of(d.endpoints[0]);
+    for p in 1..d.parts {
+        if kind_of(d.endpoints[p]) != kind {
+            return None;
         }
-        p += 1;
     }
-    k
+    kind
 }
 
-// Puts the words of n texels, to the next multiple of 8, into lanes: lane 2 * i has the low 16 bits
-// of texel i, lane 2 * i + 1 the high ones. w has the weights of both planes, partitions the
-// partition of each texel.
-pub fn applicate_color<'a>(
-    out: &mut [u16; LANES],
-    n: usize,
-    parts: usize,
-    planes: usize,
-    channel: usize,
-    ends: [Endpoints; 4],
-    w: &'a [u8; WEIGHTS],
-    partitions: &'a [u8; TEXELS],
-)
-    requires { PaintGiven n parts planes ends w.now partitions.now }
+// Puts the words of all texels, to the next multiple of 8, into lanes: lane 2 * i has the low 16
+// bits of texel i, lane 2 * i + 1 the high ones.
+pub fn applicate_color(out: &mut [u16; LANES], d: &BlockData)
     ensures { out.new ≡
-        put (lane_at (texel_word ends w.now partitions.now planes channel)) 0
-        (2 * eights n) out.old }
+        put (lane_at (texel_word d.now.endpoints d.now.weights.now d.now.partition.now d.now.planes
+        d.now.channel)) 0 (2 * eights d.now.n) out.old }
 {
-    let kind = common_kind(parts, ends);
-    if kind == 0 {
-        return texels_ldr::paint_ldr(out, n, parts, planes, channel, ends, w, partitions);
+    match common_kind(d) {
+        Some(Mark::Ldr) => texels_ldr::paint_ldr(out, d),
+        Some(Mark::Hdr) => texels_hdr::paint_hdr(out, d),
+        None => mixed::paint_any(out, d),
     }
-    if kind == 1 {
-        return texels_hdr::paint_hdr(out, n, parts, planes, channel, ends, w, partitions);
-    }
-    mixed::paint_any(out, n, w, starts_of(planes, channel), partitions, ends);
 }

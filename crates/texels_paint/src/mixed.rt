@@ -1,30 +1,13 @@
 // Texels of any marks, one after the other.
-ghost use Rattle.std.specs.Prelude.{◌≡◌, ℕ, ◌*◌, ◌/◌, ◌%◌, ◌≤◌, ◌<◌, get_or};
+ghost use Rattle.std.specs.Prelude.{◌≡◌, ◌*◌, ◌≤◌, ◌<◌};
 ghost use Rattle.laws.specs.Lists.{put};
-ghost use Rattle.footprint.specs.Footprints.{most_texels};
 ghost use Rattle.endpoints_colours.specs.Bounds.{InLimits, limit};
-ghost use Rattle.endpoints_colours.specs.Colours.{nothing};
 ghost use Rattle.lanes.specs.Lanes.{lane_at, eights};
-ghost use Rattle.texels.specs.Texels.{channel_by, word_by};
-ghost use Rattle.texels.specs.Kinds.{Ahead, word_at};
+ghost use Rattle.texels.specs.Texels.{channel_by, word_by, texel_word};
 
 use endpoints_colours::{Endpoints, Mark};
-use footprint::{TEXELS, WEIGHTS};
 use lanes::{LANES, eights};
-use texels::{Starts, hdr_channel};
-
-// A cast in a function of its own, so that its caller need not show that the number fits.
-fn u16_of(x: u8) -> u16
-    ensures { (result ≡ x) × (result < 256) }
-{
-    x as u16
-}
-
-fn place(x: u8) -> usize
-    ensures { result ≡ x }
-{
-    x as usize
-}
+use texels::{BlockData, hdr_channel, starts_of};
 
 // One channel of a texel, blended as LDR or HDR by its mark.
 fn channel_by(m: Mark, v0: u16, v1: u16, w: u8) -> u8
@@ -32,7 +15,7 @@ fn channel_by(m: Mark, v0: u16, v1: u16, w: u8) -> u8
     ensures { result ≡ channel_by m v0 v1 w }
 {
     match m {
-        Mark::Ldr => blend::select_color_byte(v0, v1, u16_of(w)) as u8,
+        Mark::Ldr => blend::select_color_byte(v0, v1, u16::from(w)) as u8,
         Mark::Hdr => hdr_channel(v0, v1, w),
     }
 }
@@ -52,43 +35,22 @@ fn texel(e: Endpoints, r: u8, g: u8, b: u8, a: u8) -> u32
     )
 }
 
-fn low(x: u32) -> u16
-    ensures { result ≡ x % 65536 }
-{
-    (x % 65536) as u16
-}
-
-fn high(x: u32) -> u16
-    ensures { result ≡ x / 65536 }
-{
-    (x / 65536) as u16
-}
-
-// Puts the words of n texels, each by the marks of its partition.
-pub(crate) fn paint_any(
-    out: &mut [u16; LANES],
-    n: usize,
-    w: &[u8; WEIGHTS],
-    k: Starts,
-    partitions: &[u8; TEXELS],
-    ends: [Endpoints; 4],
-)
-    requires n_le_most_texels { (n ≤ most_texels) × Ahead k }
-    requires by_index { (i : ℕ) → InLimits (get_or ends i nothing) }
-    requires by_index_2 { (i : ℕ) → get_or w.now i 0 ≤ 64 }
-    requires by_index_3 { (i : ℕ) → get_or partitions.now i 0 < 4 }
+// Puts the words of all texels, each by the marks of its partition. The lanes of a word are remainder
+// and quotient as `lane_at` has them: `to_le_bytes` would give four bytes to join again.
+pub(crate) fn paint_any(out: &mut [u16; LANES], d: &BlockData)
     ensures { out.new ≡
-        put (lane_at
-        (λ (i : ℕ). word_at (get_or ends (get_or partitions.now i 0) nothing) w.now
-        k i)) 0 (2 * eights n) out.old }
+        put (lane_at (texel_word d.now.endpoints d.now.weights.now d.now.partition.now d.now.planes
+        d.now.channel)) 0 (2 * eights d.now.n) out.old }
 {
-    let m = eights(n);
-    let mut i = 0;
-    while i < m {
-        let e = ends[place(partitions[i])];
+    let n = d.n;
+    let ends = d.endpoints;
+    let w = d.weights;
+    let p = d.partition;
+    let k = starts_of(d.planes, d.channel);
+    for i in 0..eights(n) {
+        let e = ends[usize::from(p[i])];
         let x = texel(e, w[k.r + i], w[k.g + i], w[k.b + i], w[k.a + i]);
-        out[2 * i] = low(x);
-        out[2 * i + 1] = high(x);
-        i += 1;
+        out[2 * i] = (x % 0x1_0000) as u16;
+        out[2 * i + 1] = (x / 0x1_0000) as u16;
     }
 }

@@ -3,28 +3,21 @@
 
 ghost use Rattle.std.specs.Prelude.{◌≡◌, ◌<◌};
 ghost use Rattle.footprint.specs.Footprints.{most_texels};
-ghost use Rattle.channels.specs.Channels.{finite as finite_of};
 ghost use Rattle.texels_read.specs.Read.{sample_in, texel_in};
 
 use channels::{Sample, Samples};
 use footprint::TEXELS;
 use lanes::LANES;
 
-// The largest finite half in place of infinity and of every NaN, for halves with no sign.
-fn finite(h: u16) -> u16
-    ensures { result ≡ finite_of h }
-{
-    if h < 0x7bff { h } else { 0x7bff }
-}
-
-// The sample that a lane holds.
+// The sample that a lane holds: a byte, or a half with the top bit, and then the largest finite half
+// in place of infinity and of every NaN.
 fn sample_of(x: u16) -> Sample
     ensures { result ≡ sample_in x }
 {
     if x < 0x8000 {
         Sample::Byte((x % 256) as u8)
     } else {
-        Sample::Half(finite(x - 0x8000))
+        Sample::Half((x - 0x8000).min(0x7bff))
     }
 }
 

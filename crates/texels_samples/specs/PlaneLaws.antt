@@ -17,9 +17,8 @@ use Rattle.texels.specs.Texels.{blend_by, plane_of}
 use Rattle.texels.specs.Samples.{lane_by, texel_lane, channel_in, samples_in}
 use Rattle.texels.specs.SampleLaws.{at_same}
 use Rattle.texels.specs.PaintGiven.{PaintGiven}
-use Rattle.texels_samples.specs.Planes.{hdr_of, limit_by, sample_lane, pair_of, pairs_of, pick, hdr_in, first_in, second_in, PairsInLimits, one_at, any_at}
+use Rattle.texels_samples.specs.Planes.{hdr_of, limit_by, sample_lane, pair_of, pairs_of, pick, hdr_in, first_in, second_in, PairsInLimits, no_pair, any_at}
 use Rattle.texels_samples.specs.declared.Pair.{Pair}
-use Rattle.texels_samples.specs.declared.Pairs.{Pairs}
 
 -- ---- one sample, as the code has it
 module _ (hdr v0 v1 w : ℕ) where
@@ -60,17 +59,16 @@ ends-lt e (suc (suc zero)) l h = (h.b0, h.b1)
 ends-lt e (suc (suc (suc zero))) l h = (h.a0, h.a1)
 ends-lt e (suc (suc (suc (suc k)))) l h = past l
 
-pub bounded : (ends : List Endpoints) (k : ℕ) (s : Pairs) → s ≡ pairs_of ends k → k < 4 → ((p : ℕ) → InLimits (get_or ends p nothing)) → PairsInLimits s
+pub bounded : (ends : List Endpoints) (k : ℕ) (s : List Pair) → s ≡ pairs_of ends k → k < 4 → ((p : ℕ) → InLimits (get_or ends p nothing)) → PairsInLimits s
 bounded ends k s q l within p h =
     let e = get_or ends p nothing in
     rw (q, pick_is ends k (λ (x : Pair). x.hdr) p h, pick_is ends k (λ (x : Pair). x.first) p h, pick_is ends k (λ (x : Pair). x.second) p h, limit_is (mark_of e k)) (ends-lt e k l (within p))
 
 -- ---- the lanes of a channel
 -- one partition is any
-pub one-any : (parts at n x : ℕ) (s : Pairs) (weights partitions out o : List ℕ) → parts ≡ 1 → ((i : ℕ) → get_or partitions i 0 < parts)
-    → out ≡ put_at (one_at s.a weights x) at (eights n) o → out ≡ put_at (any_at s weights partitions x) at (eights n) o
-one-any parts at n x s weights partitions out o e mapped h =
-    h ∙ at_same _ _ at (eights n) o (λ i l. let z : get_or partitions i 0 ≡ 0 = omega (arith, mapped i) in rw z)
+pub one-any : (s : List Pair) (weights partitions : List ℕ) (x i : ℕ) → get_or partitions i 0 < 1
+    → sample_lane (get_or s 0 no_pair).hdr (get_or s 0 no_pair).first (get_or s 0 no_pair).second (get_or weights (x + i) 0) ≡ any_at s weights partitions x i
+one-any s weights partitions x i h = let z : get_or partitions i 0 ≡ 0 = omega arith in rw z
 
 lane-is : (m : Mark) (v0 v1 w : ℕ) → sample_lane (hdr_of m) v0 v1 w ≡ lane_by m (blend_by m v0 v1 w)
 unfolding sample_lane
@@ -78,10 +76,10 @@ lane-is Ldr v0 v1 w = refl
 lane-is Hdr v0 v1 w = refl
 
 -- the numbers picked make the sample
-pub any-limit : (s : Pairs) (p : ℕ) {x y h : ℕ} → PairsInLimits s → p < 4 → h ≡ hdr_in s p → x ≡ first_in s p → y ≡ second_in s p → (x < limit_by h) × (y < limit_by h)
+pub any-limit : (s : List Pair) (p : ℕ) {x y h : ℕ} → PairsInLimits s → p < 4 → h ≡ hdr_in s p → x ≡ first_in s p → y ≡ second_in s p → (x < limit_by h) × (y < limit_by h)
 any-limit s p b l eh ex ey = rw (eh, ex, ey) (b p l)
 
-pub any-is : (s : Pairs) (p w : ℕ) {x y h r : ℕ} → h ≡ hdr_in s p → x ≡ first_in s p → y ≡ second_in s p → r ≡ sample_lane h x y w → r ≡ sample_lane (hdr_in s p) (first_in s p) (second_in s p) w
+pub any-is : (s : List Pair) (p w : ℕ) {x y h r : ℕ} → h ≡ hdr_in s p → x ≡ first_in s p → y ≡ second_in s p → r ≡ sample_lane h x y w → r ≡ sample_lane (hdr_in s p) (first_in s p) (second_in s p) w
 any-is s p w eh ex ey d = d ∙ rw (eh, ex, ey)
 
 module _ (n parts planes channel : ℕ) (ends : List Endpoints) (weights partitions : List ℕ) (given : PaintGiven n parts planes ends weights partitions) where
@@ -94,10 +92,10 @@ module _ (n parts planes channel : ℕ) (ends : List Endpoints) (weights partiti
       (lane-is (mark_of (get_or ends p nothing) k) _ _ _)
 
   -- channel k of the texels
-  pub channel-put : (k at x : ℕ) (s : Pairs) (o out : List ℕ) → s ≡ pairs_of ends k → x ≡ most_texels * plane_of planes channel k → out ≡ put_at (any_at s weights partitions x) at (eights n) o
+  pub channel-put : (k at x : ℕ) (s : List Pair) (o out : List ℕ) → s ≡ pairs_of ends k → x ≡ most_texels * plane_of planes channel k → out ≡ put_at (any_at s weights partitions x) at (eights n) o
       → out ≡ channel_in at n (λ (i : ℕ). texel_lane ends weights partitions planes channel i k) o
   channel-put k at x s o out q e h =
-      h ∙ at_same _ _ at (eights n) o (λ i l. ap (λ (z : Pairs). any_at z weights partitions x i) q ∙ texel-lane k x i e)
+      h ∙ at_same _ _ at (eights n) o (λ i l. ap (λ (z : List Pair). any_at z weights partitions x i) q ∙ texel-lane k x i e)
 
   -- and all four
   pub all-put : (o r g b a : List ℕ) → r ≡ channel_in 0 n (λ (i : ℕ). texel_lane ends weights partitions planes channel i 0) o → g ≡ channel_in 144 n (λ (i : ℕ). texel_lane ends weights partitions planes channel i 1) r

@@ -17,11 +17,12 @@ use weights_grid::Grid;
 fn is_wide(g: Grid) -> bool
     ensures { result ≡ (eqb g.planes 1 && eqb g.width g.footprint.width) }
 {
-    if g.planes == 1 {
-        return g.width == g.footprint.width;
-    }
-    false
+    g.planes == 1 && g.width == g.footprint.width
 }
+
+// What is given (`WeightsGiven`) is of the output too, and so stands in the contracts of the
+// functions that fill it and not in a type; the grid, the range and the sequence go with it because
+// `WeightsGiven` and `weights_of` are stated over them. n is the grid's count, which is worked out once.
 
 // Puts the weights of a grid that has one plane and is as wide as its footprint: if it is also as
 // high its values are the weights, and else texels lie between rows alone.
@@ -44,13 +45,7 @@ fn is_whole(g: Grid) -> bool
         (eqb g.planes 2 &&
         (eqb g.width g.footprint.width && eqb g.height g.footprint.height)) }
 {
-    if g.planes == 2 {
-        if g.width == g.footprint.width {
-            return g.height == g.footprint.height;
-        }
-        return false;
-    }
-    false
+    g.planes == 2 && g.width == g.footprint.width && g.height == g.footprint.height
 }
 
 // Tells apart the weights of two planes, which alternate in wv: those of n texels, and on to the
@@ -60,12 +55,9 @@ fn part_planes(out: &mut [u8; WEIGHTS], n: usize, wv: &[u8; WEIGHTS])
     ensures { out.new ≡
         list_of (parted_to wv.now (eights n)) 0 most_weights }
 {
-    let m = lanes::eights(n);
-    let mut i = 0;
-    while i < m {
+    for i in 0..lanes::eights(n) {
         out[i] = wv[2 * i];
         out[TEXELS + i] = wv[2 * i + 1];
-        i += 1;
     }
 }
 

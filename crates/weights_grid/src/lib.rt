@@ -8,7 +8,8 @@ ghost use Rattle.footprint.specs.Sides.{is_side};
 
 use footprint::Footprint;
 
-// How a grid lies in a footprint.
+// How a grid lies in a footprint. No ghost field says that it fits (`Fits`): definitions of specs
+// make grids of any parameters, and would need the proof.
 #[derive(Clone, Copy)]
 pub struct Grid {
     pub footprint: Footprint,

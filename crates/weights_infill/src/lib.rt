@@ -1,4 +1,5 @@
-// The weights of a footprint's texels between the points of its grid, for any grid.
+// The weights of a footprint's texels between the points of its grid, for any grid. That an output is
+// all 0 at entry is asked by each function that fills it, since a type cannot say it of an output.
 #![tactic(auto)]
 
 ghost use Rattle.std.specs.Prelude.{◌≡◌, ℕ, ◌+◌, ◌*◌, ◌/◌, ◌%◌, ◌≤◌, ◌<◌, get_or, replicate};
@@ -12,21 +13,9 @@ ghost use Rattle.lanes.specs.Lanes.{eights};
 use footprint::{TEXELS, WEIGHTS};
 use weights_grid::Grid;
 
-// A cast in a function of its own, so that its caller need not show that the number fits.
-fn u16_of(x: u8) -> u16
-    ensures { (result ≡ x) × (result < 256) }
-{
-    x as u16
-}
-
-fn usize_of(x: u16) -> usize
-    ensures { result ≡ x }
-{
-    x as usize
-}
-
 // Puts, for each column of the footprint, the place in a grid row of the point to its left, and how
-// many sixteenths the column lies beyond that point.
+// many sixteenths the column lies beyond that point: in two arrays, of which each is read by a loop
+// of its own.
 fn columns(at: &mut [u16; 16], part: &mut [u16; 16], g: Grid)
     requires { Fits g }
     ensures at_after { at.new ≡
@@ -39,33 +28,29 @@ fn columns(at: &mut [u16; 16], part: &mut [u16; 16], g: Grid)
     let d = weights_grid::step_of(g.footprint.width);
     let width = g.width as u16;
     let planes = g.planes as u16;
-    let m = lanes::eights(g.footprint.width);
-    let mut s = 0;
-    while s < m {
+    for s in 0..lanes::eights(g.footprint.width) {
         let p = weights_grid::place(d, s as u16, width);
         at[s] = p / 16 * planes;
         part[s] = p % 16;
-        s += 1;
     }
 }
 
 // Puts, for each weight of a grid, that weight and the next of its plane as the two bytes of a
-// number.
+// number: a sum, as `pair_of` has it, and `mixed` takes it apart by the same 256. `from_le_bytes` on an
+// array of two is no plainer.
 fn neighbours(out: &mut [u16; 72], n: usize, planes: usize, wv: &[u8; WEIGHTS])
     requires { (n ≤ 64) × (planes ≤ 2) }
     ensures { out.new ≡
         put (pair_of planes wv.now) 0 (eights n) out.old }
 {
-    let m = lanes::eights(n);
-    let mut i = 0;
-    while i < m {
-        out[i] = u16_of(wv[i]) + 256 * u16_of(wv[i + planes]);
-        i += 1;
+    for i in 0..lanes::eights(n) {
+        out[i] = u16::from(wv[i]) + 256 * u16::from(wv[i + planes]);
     }
 }
 
 // Puts the pairs of the grid row that starts at k, one for each column of the footprint, to out[o
-// .. o + width].
+// .. o + width]. It has six parameters, and `fill_row` seven: a record of them would be made anew for
+// every row. The two loops write arrays of other types.
 fn spread_row(
     out: &mut [u16; 208],
     o: usize,
@@ -80,27 +65,25 @@ fn spread_row(
         put_at (λ (s : ℕ). get_or next.now (k + get_or at.now s 0) 0) o width
         out.old }
 {
-    let mut s = 0;
-    while s < width {
-        out[o + s] = next[k + usize_of(at[s])];
-        s += 1;
+    for s in 0..width {
+        out[o + s] = next[k + usize::from(at[s])];
     }
 }
 
 // Puts the pairs of every grid row, one for each column of the footprint; row j starts at 16 * j.
+// Where the row starts in the grid's sequence is counted in k: the product with three factors is no
+// plainer.
 fn spread(out: &mut [u16; 208], g: Grid, at: &[u16; 16], next: &[u16; 72], plane: usize)
     requires fits { (Fits g) × (plane < g.planes) × (out.old ≡ replicate 208 0) }
-    requires by_index { (s : ℕ) → s < g.footprint.width → get_or at.now s 0 ≡
+    requires columns { (s : ℕ) → s < g.footprint.width → get_or at.now s 0 ≡
         place_of g.footprint.width g.width s / 16 * g.planes }
-    requires by_index_2 { (k : ℕ) → count_of g ≤ k → get_or next.now k 0 ≡ 0 }
+    requires past { (k : ℕ) → count_of g ≤ k → get_or next.now k 0 ≡ 0 }
     ensures { out.new ≡ list_of (spread_at g next.now plane) 0 208 }
 {
-    let mut j = 0;
     let mut k = plane;
-    while j < g.height {
+    for j in 0..g.height {
         spread_row(out, 16 * j, g.footprint.width, at, next, k);
         k += g.width * g.planes;
-        j += 1;
     }
 }
 
@@ -132,19 +115,19 @@ fn fill_row(
     ensures { out.new ≡
         put_at (row_at pairs.now part.now j h) o m out.old }
 {
-    let mut s = 0;
-    while s < m {
+    for s in 0..m {
         out[o + s] = mixed(pairs[j + s], pairs[j + 16 + s], part[s], h);
-        s += 1;
     }
 }
 
 // The rows of the footprint, each between two spread rows. A row may run past its end: the next one
-// overwrites that.
+// overwrites that. Where a row starts is counted in o, with no product a turn. weights_infill_down walks
+// over the rows alike: as one function it would take the work on a row as a closure that writes to the
+// output, which is no plainer.
 fn fill_rows(out: &mut [u8; WEIGHTS], g: Grid, pairs: &[u16; 208], part: &[u16; 16])
     requires fits { (Fits g) × (out.old ≡ replicate most_weights 0) }
-    requires by_index { (s : ℕ) → get_or part.now s 0 < 16 }
-    requires by_index_2 { (i : ℕ) → g.footprint.width ≤ i % 16 → get_or pairs.now i 0 ≡ 0 }
+    requires sixteenths { (s : ℕ) → get_or part.now s 0 < 16 }
+    requires past { (i : ℕ) → g.footprint.width ≤ i % 16 → get_or pairs.now i 0 ≡ 0 }
     ensures { out.new ≡
         texels g (rows_of g pairs.now part.now) }
 {
@@ -152,12 +135,10 @@ fn fill_rows(out: &mut [u8; WEIGHTS], g: Grid, pairs: &[u16; 208], part: &[u16; 
     let height = g.height as u16;
     let m = lanes::eights(g.footprint.width);
     let mut o = 0;
-    let mut t = 0;
-    while t < g.footprint.height {
+    for t in 0..g.footprint.height {
         let p = weights_grid::place(d, t as u16, height);
-        fill_row(out, o, m, pairs, usize_of(p / 16 * 16), part, p % 16);
+        fill_row(out, o, m, pairs, usize::from(p / 16 * 16), part, p % 16);
         o += g.footprint.width;
-        t += 1;
     }
 }
 
@@ -181,18 +162,14 @@ fn put_second(out: &mut [u8; WEIGHTS], n: usize, plane: &[u8; WEIGHTS])
     ensures { out.new ≡
         put_at (λ (i : ℕ). get_or plane.now i 0) most_texels n out.old }
 {
-    let mut i = 0;
-    while i < n {
-        out[TEXELS + i] = plane[i];
-        i += 1;
-    }
+    out[TEXELS..TEXELS + n].copy_from_slice(&plane[..n]);
 }
 
 // Puts the weights of all texels, in one or two planes, from those of the grid.
 pub fn infill(out: &mut [u8; WEIGHTS], g: Grid, n: usize, wv: &[u8; WEIGHTS])
     requires fits { (Fits g) × (n ≡ count_of g) × (out.old ≡ replicate most_weights 0) }
-    requires by_index { (k : ℕ) → count_of g ≤ k → get_or wv.now k 0 ≡ 0 }
-    requires by_index_2 { (k : ℕ) → get_or wv.now k 0 ≤ 64 }
+    requires past { (k : ℕ) → count_of g ≤ k → get_or wv.now k 0 ≡ 0 }
+    requires light { (k : ℕ) → get_or wv.now k 0 ≤ 64 }
     ensures { out.new ≡ infill_of g (λ (k : ℕ). get_or wv.now k 0) }
 {
     let mut next = [0u16; 72];

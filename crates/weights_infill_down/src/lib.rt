@@ -12,41 +12,16 @@ ghost use Rattle.footprint.specs.Footprints.{most_weights};
 use footprint::WEIGHTS;
 use weights_grid::Grid;
 
-// A cast in a function of its own, so that its caller need not show that the number fits.
-fn u16_of(x: u8) -> u16
-    ensures { (result ≡ x) × (result < 256) }
-{
-    x as u16
-}
-
-fn usize_of(x: u16) -> usize
-    ensures { result ≡ x }
-{
-    x as usize
-}
-
-// Puts 1 for each column of the footprint, and 0 past the last.
-fn inside(keep: &mut [u16; 16], width: usize)
-    requires { width ≤ 16 }
-    ensures { keep.new ≡ put (λ (s : ℕ). 1) 0 width keep.old }
-{
-    let mut s = 0;
-    while s < width {
-        keep[s] = 1;
-        s += 1;
-    }
-}
-
 // The weight between a above and b below.
 fn down(a: u8, b: u8, h: u16) -> u16
     requires { h < 16 }
     ensures { (result ≡ down_to a b h) × (result < 256) }
 {
-    (u16_of(a) * (16 - h) + u16_of(b) * h + 8) / 16
+    (u16::from(a) * (16 - h) + u16::from(b) * h + 8) / 16
 }
 
 // Puts the weights of m texels of a row whose columns are the grid's. Lanes past the last column
-// write 0.
+// write 0. Its parameters stay eight, since a record of them would be made anew for every row.
 fn fill_row_whole(
     out: &mut [u8; WEIGHTS],
     o: usize,
@@ -63,39 +38,37 @@ fn fill_row_whole(
         put_at (λ (s : ℕ). whole_at wv.now width k h s * get_or keep.now s 0) o m
         out.old }
 {
-    let mut s = 0;
-    while s < m {
+    for s in 0..m {
         out[o + s] = (down(wv[k + s], wv[k + width + s], h) * keep[s]) as u8;
-        s += 1;
     }
 }
 
-// Puts the weights of all texels in the one plane of a grid that is as wide as its footprint.
+// Puts the weights of all texels in the one plane of a grid that is as wide as its footprint. Rows are
+// walked over as in `weights_infill::fill_rows`, which says why that is not one function.
 pub fn fill_down(out: &mut [u8; WEIGHTS], g: Grid, wv: &[u8; WEIGHTS])
     requires { (Fits g) × (g.planes ≡ 1) × (g.width ≡ g.footprint.width) ×
         (out.old ≡ replicate most_weights 0) }
     ensures { out.new ≡ infill_of g (λ (k : ℕ). get_or wv.now k 0) }
 {
+    // 1 for each column of the footprint, and 0 past the last.
     let mut keep = [0u16; 16];
-    inside(&mut keep, g.footprint.width);
+    keep[..g.footprint.width].fill(1);
     let d = weights_grid::step_of(g.footprint.height);
     let height = g.height as u16;
     let m = lanes::eights(g.footprint.width);
     let mut o = 0;
-    let mut t = 0;
-    while t < g.footprint.height {
+    for t in 0..g.footprint.height {
         let p = weights_grid::place(d, t as u16, height);
         fill_row_whole(
             out,
             o,
             m,
             wv,
-            usize_of(p / 16) * g.width,
+            usize::from(p / 16) * g.width,
             g.width,
             &keep,
             p % 16,
         );
         o += g.footprint.width;
-        t += 1;
     }
 }

@@ -8,14 +8,7 @@ ghost use Rattle.sequence_ranges.specs.Ranges.{range_of, levels};
 
 use footprint::WEIGHTS;
 
-// A cast in a function of its own, so that its caller need not show that the number fits.
-fn u16_of(x: u8) -> u16
-    ensures { (result ≡ x) × (result < 256) }
-{
-    x as u16
-}
-
-// Adds one to a number above 32, so that weights reach 64.
+// Adds one to a number above 32, so that weights reach 64. A sum with the test as a number would be no plainer.
 fn raise(x: u16) -> u8
     requires { x < 64 }
     ensures { result ≡ raised x }
@@ -31,34 +24,14 @@ fn turn(odd: u16, t: u16) -> u16
     if odd == 0 { t / 4 } else { 32 + (127 - t) / 4 }
 }
 
-// Puts the weights of values of plain bits: their repetition to six bits is a product and what is
-// left over beside it.
-fn plain_all(out: &mut [u8; WEIGHTS], n: usize, by: u16, over: u16, seq: &[u8; 72])
-    requires { (n ≤ 64) × (by ≤ 63) × (over ≤ 8) }
-    ensures { out.new ≡
-        each (plain_of by over) seq.now n out.old }
+// The weight of a value of plain bits: their repetition to six bits is a product and what is left
+// over beside it.
+fn plain(v: u8, by: u16, over: u16) -> u8
+    requires { (v < 256) × (by ≤ 63) × (over ≤ 8) }
+    ensures { result ≡ plain_of by over v }
 {
-    let m = lanes::eights(n);
-    let mut i = 0;
-    while i < m {
-        let v = u16_of(seq[i]);
-        out[i] = raise((v * by + (v >> over)) % 64);
-        i += 1;
-    }
-}
-
-// Puts the weights of values that are a trit or a quint alone.
-fn digit_all(out: &mut [u8; WEIGHTS], n: usize, by: u8, seq: &[u8; 72])
-    requires { (n ≤ 64) × ((k : ℕ) → get_or seq.now k 0 * by < 256) }
-    ensures { out.new ≡
-        each (λ (v : ℕ). v * by) seq.now n out.old }
-{
-    let m = lanes::eights(n);
-    let mut i = 0;
-    while i < m {
-        out[i] = seq[i] * by;
-        i += 1;
-    }
+    let x = u16::from(v);
+    raise((x * by + (x >> over)) % 64)
 }
 
 // The digit of v times c, plus the bits of v above the lowest times `by`.
@@ -69,19 +42,27 @@ fn sum(v: u16, bits: u16, c: u16, by: u16) -> u16
     (v >> bits) * c + v % (1 << bits) / 2 * by
 }
 
-// Puts the weights of values of trits or quints with bits. The product with `by` puts the bits
-// above the lowest where the standard's pattern has them.
-fn mixed_all(out: &mut [u8; WEIGHTS], n: usize, bits: u16, c: u16, by: u16, seq: &[u8; 72])
-    requires { (n ≤ 64) × (bits ≤ 3) × ((k : ℕ) → sum_of bits c by (get_or seq.now k 0) ≤ 127) }
-    ensures { out.new ≡
-        each (mixed_of bits c by) seq.now n out.old }
+// The weight of a value of trits or quints with bits. The product with `by` puts the bits above the
+// lowest where the standard's pattern has them.
+fn mixed(v: u8, bits: u16, c: u16, by: u16) -> u8
+    requires { (bits ≤ 3) × (sum_of bits c by v ≤ 127) }
+    ensures { result ≡ mixed_of bits c by v }
 {
-    let m = lanes::eights(n);
-    let mut i = 0;
-    while i < m {
-        let v = u16_of(seq[i]);
-        out[i] = raise(turn(v % 2, sum(v, bits, c, by)));
-        i += 1;
+    let x = u16::from(v);
+    raise(turn(x % 2, sum(x, bits, c, by)))
+}
+
+// Puts what `weight` makes of each of n values, to the next multiple of 8. It is compiled anew for
+// each rule, whose numbers are then part of the loop. `texels_hdr::put_bytes` says why it is not one function with
+// this one.
+fn put_each<F: Fn(u8) -> u8>(out: &mut [u8; WEIGHTS], n: usize, seq: &[u8; 72], weight: F)
+    requires few { n ≤ 64 }
+    requires callable { (k : ℕ) → F.pre weight (get_or seq.now k 0) }
+    ensures { (f : ℕ → ℕ) → ((k r : ℕ) → F.post weight (get_or seq.now k 0) r →
+        r ≡ f (get_or seq.now k 0)) → out.new ≡ each f seq.now n out.old }
+{
+    for i in 0..lanes::eights(n) {
+        out[i] = weight(seq[i]);
     }
 }
 
@@ -91,17 +72,17 @@ pub fn unquantize(out: &mut [u8; WEIGHTS], n: usize, q: usize, seq: &[u8; 72])
     ensures { out.new ≡ each (weight_of q) seq.now n out.old }
 {
     match q {
-        0 => plain_all(out, n, 63, 8, seq),
-        1 => digit_all(out, n, 32, seq),
-        2 => plain_all(out, n, 21, 8, seq),
-        3 => digit_all(out, n, 16, seq),
-        4 => mixed_all(out, n, 1, 50, 0, seq),
-        5 => plain_all(out, n, 9, 8, seq),
-        6 => mixed_all(out, n, 1, 28, 0, seq),
-        7 => mixed_all(out, n, 2, 23, 69, seq),
-        8 => plain_all(out, n, 4, 2, seq),
-        9 => mixed_all(out, n, 2, 13, 66, seq),
-        10 => mixed_all(out, n, 3, 11, 33, seq),
-        _ => plain_all(out, n, 2, 4, seq),
+        0 => put_each(out, n, seq, |v| plain(v, 63, 8)),
+        1 => put_each(out, n, seq, |v| v * 32),
+        2 => put_each(out, n, seq, |v| plain(v, 21, 8)),
+        3 => put_each(out, n, seq, |v| v * 16),
+        4 => put_each(out, n, seq, |v| mixed(v, 1, 50, 0)),
+        5 => put_each(out, n, seq, |v| plain(v, 9, 8)),
+        6 => put_each(out, n, seq, |v| mixed(v, 1, 28, 0)),
+        7 => put_each(out, n, seq, |v| mixed(v, 2, 23, 69)),
+        8 => put_each(out, n, seq, |v| plain(v, 4, 2)),
+        9 => put_each(out, n, seq, |v| mixed(v, 2, 13, 66)),
+        10 => put_each(out, n, seq, |v| mixed(v, 3, 11, 33)),
+        _ => put_each(out, n, seq, |v| plain(v, 2, 4)),
     }
 }

@@ -1,17 +1,20 @@
--- `texels_hdr::hdr_bytes`: each arm has the numbers of the partitions in use. Assumes nothing.
-use Prim.Native.Nat.{ℕ}
+-- `texels_hdr::hdr_bytes`: each loop has the numbers of the partitions in use. Assumes nothing.
+use mathlib.Core.Path.{◌∙◌}
+use Prim.Native.Nat.{◌<◌, ◌+◌}
+use lib.ListN.{get_or}
+use Rattle.std.proofs.Common.{rules}
 use native.Mathlib.Omega.{arith}
-use Rattle.texels_hdr.specs.HdrLaws.{hdr-first}
+use Rattle.texels_hdr.specs.HdrLaws.{at_flat, at_any}
 use Rattle.texels_hdr.proofs.hdr_bytes.Goals as goal
 
-pub hdr_single-requires : goal.hdr_single-requires
-hdr_single-requires c = record { n_le_most_texels = (c.requires.n_le_most_texels.0, c.requires.n_le_most_texels.2, c.requires.n_le_most_texels.3 0, c.requires.n_le_most_texels.4 0); by_index = c.requires.by_index }
-
-pub hdr_two-requires : goal.hdr_two-requires
-hdr_two-requires c = record { n_le_most_texels = (c.requires.n_le_most_texels.0, c.requires.n_le_most_texels.2, c.requires.n_le_most_texels.3, c.requires.n_le_most_texels.4); by_index = c.requires.by_index; by_index_2 = λ (i : ℕ). omega (arith, c.requires.by_index_2 i) }
-
-pub hdr_four-requires : goal.hdr_four-requires
-hdr_four-requires c = record { n_le_most_texels = (c.requires.n_le_most_texels.0, c.requires.n_le_most_texels.2, c.requires.n_le_most_texels.3, c.requires.n_le_most_texels.4); by_index = c.requires.by_index; by_index_2 = λ (i : ℕ). omega (arith, c.requires.by_index_2 i) }
-
 pub returns-in-1 : goal.returns-in-1
-returns-in-1 c = search hdr-first
+returns-in-1 c = c.put_bytes.ensures _ (λ i r h e.
+    let first : get_or c.args.d.now.partition.now i 0 < 1 = omega (arith, c.args.d.now.given.mapped i, c.in-1.is) in
+    let flat = at_flat c.args.v.first c.args.v.second c.args.d.now.weights.now c.args.d.now.partition.now c.args.x i (c.args.d.now.given.light (c.args.x + i)) c.if-a0-b0.true first in
+    (search rules) ∙ c.hdr_channel-c.ensures ∙ flat)
+
+pub returns-in_default : goal.returns-in_default
+returns-in_default c = c.put_bytes-in_default.ensures _ (λ i r h e.
+    let below : get_or c.args.d.now.partition.now i 0 < 4 = omega (arith, c.args.d.now.given.mapped i, c.args.d.now.given.four) in
+    let any = at_any c.args.v.first c.args.v.second c.args.d.now.weights.now c.args.d.now.partition.now c.args.x i below in
+    (search rules) ∙ any)

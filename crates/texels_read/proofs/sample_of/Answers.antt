@@ -7,4 +7,4 @@ pub returns-then-x-lt32768 : goal.returns-then-x-lt32768
 returns-then-x-lt32768 c = lane_byte _ c.if-x-lt32768.true
 
 pub returns-else-x-lt32768 : goal.returns-else-x-lt32768
-returns-else-x-lt32768 c = lane-half _ _ (omega (arith, c.if-x-lt32768.false)) c.finite.ensures
+returns-else-x-lt32768 c = lane-half _ _ (omega (arith, c.if-x-lt32768.false)) c.min.ensures

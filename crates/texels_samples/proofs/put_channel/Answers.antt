@@ -1,15 +1,13 @@
--- `texels_samples::put_channel` meets its contract: a loop for one partition, and one for any. Assumes nothing.
-use Prim.Native.Nat.{ℕ}
+-- `texels_samples::put_channel`: any texel's partition is one of four, and its ends keep their limits. Assumes nothing.
+use Prim.Native.Nat.{◌<◌, ◌≤◌, ◌+◌}
+use lib.ListN.{get_or}
+use Rattle.std.proofs.Common.{rules}
 use native.Mathlib.Omega.{arith}
-use Rattle.texels_samples.specs.PlaneLaws.{one-any}
 use Rattle.texels_samples.proofs.put_channel.Goals as goal
 
-pub put_one-requires : goal.put_one-requires
-put_one-requires c = record { at_bound = (c.requires.at_bound.0, c.requires.at_bound.1, c.requires.at_bound.3, (c.requires.at_bound.4 0 (omega arith)).0, (c.requires.at_bound.4 0 (omega arith)).1); by_index = c.requires.by_index }
-
-pub returns-then-parts-eq1 : goal.returns-then-parts-eq1
-returns-then-parts-eq1 c =
-    one-any c.args.parts c.args.at c.args.n c.args.x c.args.s c.args.w.now c.args.partitions.now _ c.args.out.now c.if-parts-eq1.true c.requires.by_index_2 c.put_one.ensures
-
-pub put_any-requires : goal.put_any-requires
-put_any-requires c = record { at_bound = (c.requires.at_bound.0, c.requires.at_bound.1, c.requires.at_bound.3, c.requires.at_bound.4); by_index = c.requires.by_index; by_index_2 = λ (i : ℕ). omega (arith, c.requires.by_index_2 i, c.requires.at_bound.2) }
+pub put_lanes-requires-in_default-clause-callable : goal.put_lanes-requires-in_default-clause-callable
+put_lanes-requires-in_default-clause-callable c = λ i h.
+    let below : get_or c.args.d.now.partition.now i 0 < 4 = omega (arith, c.args.d.now.given.mapped i, c.args.d.now.given.four) in
+    let light : get_or c.args.d.now.weights.now (c.args.x + i) 0 ≤ 64 = c.args.d.now.given.light (c.args.x + i) in
+    let limits = c.requires.ends (get_or c.args.d.now.partition.now i 0) below in
+    search rules

@@ -11,7 +11,7 @@ use Rattle.weights.proofs.decode_any.Goals as goal
 pub infill-requires : goal.infill-requires
 infill-requires c =
     let grid : c.unquantize.new.out ≡ each (weight_of c.args.q) c.args.seq.now (count_of c.args.g) (replicate most_weights 0) = rw (← c.requires.1) c.unquantize.ensures in
-    record { fits = (c.requires.0.fits, c.requires.1, c.requires.0.clear); by_index = grid-zero c.args.g c.args.q c.args.seq.now _ c.requires.0.fits c.requires.0.encoded grid; by_index_2 = grid-le c.args.g c.args.q c.args.seq.now _ c.requires.0.fits c.requires.0.encoded grid }
+    record { fits = (c.requires.0.fits, c.requires.1, c.requires.0.clear); past = grid-zero c.args.g c.args.q c.args.seq.now _ c.requires.0.fits c.requires.0.encoded grid; light = grid-le c.args.g c.args.q c.args.seq.now _ c.requires.0.fits c.requires.0.encoded grid }
 
 pub returns : goal.returns
 returns c =

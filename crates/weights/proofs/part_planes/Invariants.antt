@@ -1,14 +1,9 @@
 -- The first i texels of each plane are told apart.
 use mathlib.Core.Path.{◌≡◌}
-use Prim.Native.Nat.{◌-◌, ◌≤◌}
 use Rattle.laws.specs.Lists.{list_of}
 use Rattle.weights.specs.Parted.{parted_to}
 use Rattle.footprint.specs.Footprints.{most_weights}
-use Rattle.lanes.specs.Lanes.{eights}
 use Rattle.weights.proofs.part_planes.Given as goal
 
 abbrev pub invariant-loop-i : goal.invariant-loop-i
-invariant-loop-i l = (l.i ≤ eights l.n) × (l.out ≡ list_of (parted_to l.wv l.i) 0 most_weights)
-
-abbrev pub decreases-loop-i : goal.decreases-loop-i
-decreases-loop-i l = eights l.n - l.i
+invariant-loop-i l = l.out ≡ list_of (parted_to l.wv l.i) 0 most_weights

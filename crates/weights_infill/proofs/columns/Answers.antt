@@ -18,12 +18,12 @@ pub overflow_cast-planes : goal.overflow_cast-planes
 overflow_cast-planes c =
     omega (arith, c.requires)
 
-pub eights-m-requires : goal.eights-m-requires
-eights-m-requires c =
+pub eights-s-end-requires : goal.eights-s-end-requires
+eights-s-end-requires c =
     omega (arith, sides-in c.requires)
 
 pub loop-s-init : goal.loop-s-init
-loop-s-init c = (zero-le, put-none _ _ _, put-none _ _ _)
+loop-s-init c = (put-none _ _ _, put-none _ _ _)
 
 pub overflow_cast-s : goal.overflow_cast-s
 overflow_cast-s c =
@@ -53,19 +53,14 @@ pub bounds-part-s : goal.bounds-part-s
 bounds-part-s c =
     omega (arith, sides-in c.requires)
 
-pub overflow_add-s : goal.overflow_add-s
-overflow_add-s c =
-    omega (arith, sides-in c.requires)
-
 pub loop-s-preserved : goal.loop-s-preserved
 loop-s-preserved c = (
-  omega arith,
-  put-turn _ _ _ _ _ _ c.loop-s.invariant.1 zero-le (ap (λ (p : ℕ). p / 16 * c.args.g.planes) c.place-p.ensures.0),
-  put-turn _ _ _ _ _ _ c.loop-s.invariant.2 zero-le (ap (λ (p : ℕ). p % 16) c.place-p.ensures.0),
+  put-turn _ _ _ _ _ _ c.loop-s.invariant.0 zero-le (ap (λ (p : ℕ). p / 16 * c.args.g.planes) c.place-p.ensures.0),
+  put-turn _ _ _ _ _ _ c.loop-s.invariant.1 zero-le (ap (λ (p : ℕ). p % 16) c.place-p.ensures.0),
 )
 
 pub returns : goal.returns
 unfolding place_of
 returns c =
     let g = c.args.g in
-    let e = c.step_of-d.ensures.0 in record { at_after = put-end _ _ _ _ _ _ (rw e at c.loop-s.invariant.1) (omega arith) (omega arith); part_after = put-end _ _ _ _ _ _ (rw e at c.loop-s.invariant.2) (omega arith) (omega arith) }
+    let e = c.step_of-d.ensures.0 in record { at_after = put-end _ _ _ _ _ _ (rw e at c.loop-s.invariant.0) (omega arith) (omega arith); part_after = put-end _ _ _ _ _ _ (rw e at c.loop-s.invariant.1) (omega arith) (omega arith) }

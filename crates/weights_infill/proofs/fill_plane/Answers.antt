@@ -12,12 +12,12 @@ use Rattle.weights_infill.proofs.fill_plane.Goals as goal
 pub spread-requires : goal.spread-requires
 spread-requires c =
     let a = c.args in
-    let fits = c.requires.0 in record { fits = (fits, c.requires.1, refl); by_index = λ s h. column-at a.g fits _ c.columns.new.at s c.columns.ensures.at_after h; by_index_2 = c.requires.3.past }
+    let fits = c.requires.0 in record { fits = (fits, c.requires.1, refl); columns = λ s h. column-at a.g fits _ c.columns.new.at s c.columns.ensures.at_after h; past = c.requires.3.past }
 
 pub fill_rows-requires : goal.fill_rows-requires
 fill_rows-requires c =
     let a = c.args in
-    let fits = c.requires.0 in record { fits = (fits, c.requires.2); by_index = λ s. column-lt a.g fits _ c.columns.new.part s c.columns.ensures.part_after (mod-lt _ (omega arith)); by_index_2 = λ i h. ap (λ (l : List ℕ). get_or l i 0) c.spread.ensures ∙ spread-past a.g a.next.now a.plane fits c.requires.1 i h }
+    let fits = c.requires.0 in record { fits = (fits, c.requires.2); sixteenths = λ s. column-lt a.g fits _ c.columns.new.part s c.columns.ensures.part_after (mod-lt _ (omega arith)); past = λ i h. ap (λ (l : List ℕ). get_or l i 0) c.spread.ensures ∙ spread-past a.g a.next.now a.plane fits c.requires.1 i h }
 
 pub returns : goal.returns
 returns c = search plane-is

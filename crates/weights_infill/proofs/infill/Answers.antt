@@ -34,11 +34,11 @@ lows g n w next fits e past small h =
 
 pub fill_plane-requires : goal.fill_plane-requires
 fill_plane-requires c =
-    (c.requires.fits.0, c.requires.fits.0.planes.0, c.requires.fits.2, pairs c.args.g c.args.n c.args.wv.now c.neighbours.new.out c.requires.fits.0 c.requires.fits.1 c.requires.by_index c.requires.by_index_2 c.neighbours.ensures)
+    (c.requires.fits.0, c.requires.fits.0.planes.0, c.requires.fits.2, pairs c.args.g c.args.n c.args.wv.now c.neighbours.new.out c.requires.fits.0 c.requires.fits.1 c.requires.past c.requires.light c.neighbours.ensures)
 
 pub fill_plane-requires-then-g-eq2 : goal.fill_plane-requires-then-g-eq2
 fill_plane-requires-then-g-eq2 c =
-    (c.requires.fits.0, omega arith, refl, pairs c.args.g c.args.n c.args.wv.now c.neighbours.new.out c.requires.fits.0 c.requires.fits.1 c.requires.by_index c.requires.by_index_2 c.neighbours.ensures)
+    (c.requires.fits.0, omega arith, refl, pairs c.args.g c.args.n c.args.wv.now c.neighbours.new.out c.requires.fits.0 c.requires.fits.1 c.requires.past c.requires.light c.neighbours.ensures)
 
 pub overflow_mul-g : goal.overflow_mul-g
 overflow_mul-g c =
@@ -53,11 +53,11 @@ returns-then-g-eq2 c =
     let g = c.args.g in
     let next = c.neighbours.new.out in
     two-planes g (low_of next) c.requires.fits.0 c.if-g-eq2.true c.fill_plane.new.out c.put_second.new.out c.fill_plane.ensures
-    (rw c.fill_plane-then-g-eq2.ensures at c.put_second.ensures) ∙ ap (infill_of g) (lows c.args.g c.args.n c.args.wv.now c.neighbours.new.out c.requires.fits.0 c.requires.fits.1 c.requires.by_index c.requires.by_index_2 c.neighbours.ensures)
+    (rw c.fill_plane-then-g-eq2.ensures at c.put_second.ensures) ∙ ap (infill_of g) (lows c.args.g c.args.n c.args.wv.now c.neighbours.new.out c.requires.fits.0 c.requires.fits.1 c.requires.past c.requires.light c.neighbours.ensures)
 
 pub returns-else-g-eq2 : goal.returns-else-g-eq2
 returns-else-g-eq2 c =
     let g = c.args.g in
     let next = c.neighbours.new.out in
     let e : g.planes ≡ 1 = omega arith in
-    c.fill_plane.ensures ∙ one-plane g (low_of next) c.requires.fits.0 e ∙ ap (infill_of g) (lows c.args.g c.args.n c.args.wv.now c.neighbours.new.out c.requires.fits.0 c.requires.fits.1 c.requires.by_index c.requires.by_index_2 c.neighbours.ensures)
+    c.fill_plane.ensures ∙ one-plane g (low_of next) c.requires.fits.0 e ∙ ap (infill_of g) (lows c.args.g c.args.n c.args.wv.now c.neighbours.new.out c.requires.fits.0 c.requires.fits.1 c.requires.past c.requires.light c.neighbours.ensures)

@@ -1,13 +1,8 @@
 -- The places before i hold pairs.
 use mathlib.Core.Path.{◌≡◌}
-use Prim.Native.Nat.{◌-◌, ◌≤◌}
 use Rattle.laws.specs.Lists.{put}
 use Rattle.weights_infill.specs.Fast.{pair_of}
-use Rattle.lanes.specs.Lanes.{eights}
 use Rattle.weights_infill.proofs.neighbours.Given as goal
 
 abbrev pub invariant-loop-i : goal.invariant-loop-i
-invariant-loop-i l = (l.i ≤ eights l.n) × (l.out ≡ put (pair_of l.planes l.wv) 0 l.i l.initial.out)
-
-abbrev pub decreases-loop-i : goal.decreases-loop-i
-decreases-loop-i l = eights l.n - l.i
+invariant-loop-i l = l.out ≡ put (pair_of l.planes l.wv) 0 l.i l.initial.out

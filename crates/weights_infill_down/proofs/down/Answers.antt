@@ -4,17 +4,21 @@ use native.Mathlib.Omega.{arith}
 use native.Mathlib.Nat.{mul-le-mul_right}
 use Rattle.weights_infill_down.proofs.down.Goals as goal
 
-most : (c : goal.After-u16_of-2) → c.u16_of.result * (16 - c.args.h) + c.u16_of-2.result * c.args.h ≤ 255 * 16
+most : (c : goal.After-from-2) → c.from.result * (16 - c.args.h) + c.from-2.result * c.args.h ≤ 255 * 16
 most c =
-    let a : c.u16_of.result ≤ 255 = omega (arith, c.u16_of.ensures.1) in
-    let b : c.u16_of-2.result ≤ 255 = omega (arith, c.u16_of-2.ensures.1) in
+    let a : c.from.result ≤ 255 = omega (arith, c.from.ensures, c.ranges.a) in
+    let b : c.from-2.result ≤ 255 = omega (arith, c.from-2.ensures, c.ranges.b) in
     omega (arith, mul-le-mul_right (16 - c.args.h) a, mul-le-mul_right c.args.h b)
 
 pub overflow_mul-result : goal.overflow_mul-result
-overflow_mul-result c = omega (arith, mul-le-mul_right (16 - c.args.h) c.u16_of.ensures.1)
+overflow_mul-result c =
+    let a : c.from.result ≤ 255 = omega (arith, c.from.ensures, c.ranges.a) in
+    omega (arith, mul-le-mul_right (16 - c.args.h) a)
 
 pub overflow_mul-result-2 : goal.overflow_mul-result-2
-overflow_mul-result-2 c = omega (arith, mul-le-mul_right c.args.h c.u16_of-2.ensures.1)
+overflow_mul-result-2 c =
+    let b : c.from-2.result ≤ 255 = omega (arith, c.from-2.ensures, c.ranges.b) in
+    omega (arith, mul-le-mul_right c.args.h b)
 
 pub overflow_add-result : goal.overflow_add-result
 overflow_add-result c = omega (arith, most c)
@@ -23,4 +27,4 @@ pub overflow_add-result-2 : goal.overflow_add-result-2
 overflow_add-result-2 c = omega (arith, most c)
 
 pub returns : goal.returns
-returns c = (rw (c.u16_of.ensures.0, c.u16_of-2.ensures.0), omega (arith, most c))
+returns c = (rw (c.from.ensures, c.from-2.ensures), omega (arith, most c))

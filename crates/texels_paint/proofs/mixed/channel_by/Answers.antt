@@ -21,7 +21,7 @@ hdr_channel-requires c =
 
 pub returns-in-Ldr : goal.returns-in-Ldr
 unfolding channel_by
-returns-in-Ldr c = channel-of _ _ _ c.in-Ldr.is (rw c.u16_of.ensures.0 at c.select_color_byte.ensures.0)
+returns-in-Ldr c = channel-of _ _ _ c.in-Ldr.is (rw c.from.ensures at c.select_color_byte.ensures.0)
 
 pub returns-in-Hdr : goal.returns-in-Hdr
 unfolding channel_by
