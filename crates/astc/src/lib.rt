@@ -14,6 +14,22 @@ use footprint::Footprint;
 use image::Cursor;
 use image_shape::Shape;
 
+fn footprint(width: usize, height: usize) -> Footprint
+    ensures { result ≡ footprint width height }
+{
+    Footprint { width, height }
+}
+
+fn shape(width: usize, height: usize, bw: usize, bh: usize) -> Shape
+    ensures { result ≡ shape width height bw bh }
+{
+    Shape {
+        width,
+        height,
+        footprint: footprint(bw, bh),
+    }
+}
+
 // Paints the words of a block and answers by its number.
 pub fn astc_decode_block(block: &[u8], bw: usize, bh: usize, out: &mut [u32]) -> u32
     ensures value { result ≡
@@ -21,11 +37,8 @@ pub fn astc_decode_block(block: &[u8], bw: usize, bh: usize, out: &mut [u32]) ->
     ensures out_after { out.new ≡
         painted_of block.now (footprint bw bh) out.old }
 {
-    let f = Footprint {
-        width: bw,
-        height: bh,
-    };
-    block::decode_astc_block(block, f, out) as u32
+    let outcome = block::decode_astc_block(block, footprint(bw, bh), out);
+    answers::answer_number(outcome) as u32
 }
 
 // Writes a block's map and answers by the block's number.
@@ -58,15 +71,11 @@ pub fn astc_block_channels(
         floats_in options block.now (footprint bw bh) (length channels.old)
         floats.old) }
 {
-    let refused = astc_checks::options_refusal(options);
-    if refused != 0 {
-        return refused as u32;
+    if let Err(refusal) = astc_checks::options_refusal(options) {
+        return usize::from(refusal) as u32;
     }
-    let f = Footprint {
-        width: bw,
-        height: bh,
-    };
-    block_channels::decode_channels(block, f, channels, floats) as u32
+    let outcome = block_channels::decode_channels(block, footprint(bw, bh), channels, floats);
+    answers::answer_number(outcome) as u32
 }
 
 // Paints the words of an image and answers by number.
@@ -84,16 +93,8 @@ pub fn astc_decode_image(
     ensures out_after { out.new ≡
         image_of «data».now (shape width height bw bh) out.old }
 {
-    let footprint = Footprint {
-        width: bw,
-        height: bh,
-    };
-    let m = Shape {
-        width,
-        height,
-        footprint,
-    };
-    image::decode_astc(data, m, out) as u32
+    let outcome = image::decode_astc(data, shape(width, height, bw, bh), out);
+    answers::refusal_number(outcome) as u32
 }
 
 // Paints the next blocks of an image, leads its cursor on and answers by number.
@@ -118,18 +119,9 @@ pub fn astc_image_step(
         moved_in «data».now (cursor width height bw bh next) blocks
         (length out.old) moved.old }
 {
-    let footprint = Footprint {
-        width: bw,
-        height: bh,
-    };
-    let shape = Shape {
-        width,
-        height,
-        footprint,
-    };
-    let refused = astc_checks::places_refusal(shape, data.len(), out.len(), moved.len());
-    if refused != 0 {
-        return refused as u32;
+    let shape = shape(width, height, bw, bh);
+    if let Err(refusal) = astc_checks::places_refusal(shape, data.len(), out.len(), moved.len()) {
+        return usize::from(refusal) as u32;
     }
     let c = Cursor { shape, next };
     let s = c.step(data, blocks, out);

@@ -3,6 +3,7 @@
 #![tactic(auto)]
 
 ghost use Rattle.std.specs.Prelude.{◌≡◌, true, false, ◌*◌, ◌≤◌, ◌<◌, length};
+ghost use Rattle.answers.specs.Results.{refusal_number, verdict_number, broken, answered};
 ghost use Rattle.laws.specs.Lists.{put};
 ghost use Rattle.footprint.specs.Footprints.{texels_of, listed};
 ghost use Rattle.bits.specs.Blocks.{value_of};
@@ -12,12 +13,14 @@ ghost use Rattle.block_map.specs.Answer.{answer_of};
 ghost use Rattle.block.specs.Block.{block_bits};
 ghost use Rattle.block_channels.specs.BlockChannels.{magenta_samples, number_at, marks_at, answered_at, room_of, numbers_of, marks_in, refused_by, texel_answered};
 
+use answers::{Refusal, Rule, Verdict};
 use bits::Block;
 use channels::{Sample, Samples, Texel, texel_of};
 use footprint::Footprint;
 use lanes::{Form, LANES};
 
-// A block's answer, and the channels of one of its texels; a refusal has bytes of 0.
+// A block's answer, and the channels of one of its texels; a refusal has bytes of 0. The answer is a
+// number because the definition texel_answered has it so.
 #[derive(Clone, Copy)]
 pub struct Answered {
     pub answer: usize,
@@ -36,41 +39,43 @@ fn magenta() -> Samples
     }
 }
 
-// Puts the samples of a legal block that is not void, at a listed footprint, into lanes, and gives
-// the block's answer.
-fn decode_samples(b: Block, f: Footprint, lanes: &mut [u16; LANES]) -> usize
+// Puts the samples of a legal block that is not void, at a listed footprint, into lanes, or says
+// which rule the block breaks first.
+fn decode_samples(b: Block, f: Footprint, lanes: &mut [u16; LANES]) -> Result<(), Rule>
     requires { (is_void (value_of b) ≡ false) × (listed f ≡ true) }
-    ensures value { result ≡ block_answer (value_of b) f }
+    ensures value { broken result ≡ block_answer (value_of b) f }
     ensures lanes_after { lanes.new ≡ lanes_in Form.Samples (value_of b) f lanes.old }
 {
-    let tables = block_tables::make_tables();
-    block_ordinary::decode_ordinary(&tables.trits, &tables.quints, b, f, lanes, Form::Samples)
+    block_ordinary::decode_ordinary(b, f, lanes, Form::Samples)
 }
 
-// Puts the numbers and the marks of a block at a listed footprint, and gives the answer.
-fn put_block(s: &[u8], f: Footprint, out: &mut [u32], floats: &mut [u8]) -> usize
+// Puts the numbers and the marks of a block at a listed footprint. `block::decode_words` says why it and
+// `texel_at` are not one function with that one, and why they take a slice.
+fn put_block(s: &[u8], f: Footprint, out: &mut [u32], floats: &mut [u8]) -> Verdict
     requires { (length s.now ≡ 16) × (listed f ≡ true) × (4 * texels_of f ≤ length out.old) ×
         (texels_of f ≤ length floats.old) }
-    ensures { (result ≡ block_answer (block_bits s.now) f) ×
+    ensures { (verdict_number result ≡ block_answer (block_bits s.now) f) ×
         (out.new ≡ put (number_at s.now f) 0 (4 * texels_of f) out.old)
         × (floats.new ≡
         put (marks_at s.now f) 0 (texels_of f) floats.old) }
 {
     let n = f.width * f.height;
     let b = block_load::load(s);
-    let a = block_void::void_answer(b);
-    if a == answers::VOID_EXTENT {
+    if params_low::is_void(b) {
         texels_numbers::fill_texels(out, floats, n, block_void::void_samples(b));
-        return a;
+        return Verdict::VoidExtent;
     }
     let mut lanes = [0u16; LANES];
-    let answer = decode_samples(b, f, &mut lanes);
-    if answer == answers::LEGAL {
-        texels_numbers::put_texels(out, floats, n, &lanes);
-        return answers::LEGAL;
+    match decode_samples(b, f, &mut lanes) {
+        Ok(()) => {
+            texels_numbers::put_texels(out, floats, n, &lanes);
+            Verdict::Legal
+        }
+        Err(rule) => {
+            texels_numbers::fill_texels(out, floats, n, magenta());
+            Verdict::Broken(rule)
+        }
     }
-    texels_numbers::fill_texels(out, floats, n, magenta());
-    answer
 }
 
 // The answer and the channels of texel t of a block at a listed footprint.
@@ -79,24 +84,22 @@ fn texel_at(s: &[u8], f: Footprint, t: usize) -> Answered
     ensures { result ≡ answered_at s.now f t }
 {
     let b = block_load::load(s);
-    let a = block_void::void_answer(b);
-    if a == answers::VOID_EXTENT {
+    if params_low::is_void(b) {
         return Answered {
-            answer: a,
+            answer: usize::from(Verdict::VoidExtent),
             texel: texel_of(block_void::void_samples(b)),
         };
     }
     let mut lanes = [0u16; LANES];
-    let answer = decode_samples(b, f, &mut lanes);
-    if answer == answers::LEGAL {
-        return Answered {
-            answer: answers::LEGAL,
+    match decode_samples(b, f, &mut lanes) {
+        Ok(()) => Answered {
+            answer: usize::from(Verdict::Legal),
             texel: texel_of(texels_read::samples_at(&lanes, t)),
-        };
-    }
-    Answered {
-        answer,
-        texel: texel_of(magenta()),
+        },
+        Err(rule) => Answered {
+            answer: usize::from(rule),
+            texel: texel_of(magenta()),
+        },
     }
 }
 
@@ -104,17 +107,18 @@ fn texel_at(s: &[u8], f: Footprint, t: usize) -> Answered
 fn room_of(places: usize, marks: usize) -> usize
     ensures { result ≡ room_of places marks }
 {
-    if places / 4 < marks {
-        return places / 4;
-    }
-    marks
+    (places / 4).min(marks)
 }
 
 // Puts four numbers a texel into `out`, red, green, blue and alpha, bytes or the bits of floats,
-// and into `floats` which of them are floats; gives the answer. A refusal leaves both outputs as
-// they were.
-pub fn decode_channels(s: &[u8], f: Footprint, out: &mut [u32], floats: &mut [u8]) -> usize
-    ensures { (result ≡
+// and into `floats` which of them are floats. A refusal leaves both outputs as they were.
+pub fn decode_channels(
+    s: &[u8],
+    f: Footprint,
+    out: &mut [u32],
+    floats: &mut [u8],
+) -> Result<Verdict, Refusal>
+    ensures { (answered result ≡
         answer_of s.now f
         (room_of (length out.old) (length floats.old))) ×
         (out.new ≡
@@ -122,19 +126,16 @@ pub fn decode_channels(s: &[u8], f: Footprint, out: &mut [u32], floats: &mut [u8
         (floats.new ≡
         marks_in s.now f (length out.old) floats.old) }
 {
-    let a = block_refusal::refusal(s.len(), f, room_of(out.len(), floats.len()));
-    if a != 0 {
-        return a;
-    }
-    put_block(s, f, out, floats)
+    block_refusal::refusal(s.len(), f, room_of(out.len(), floats.len()))?;
+    Ok(put_block(s, f, out, floats))
 }
 
 // What a refused call for one texel answers: its number, and bytes of 0.
-fn refused(answer: usize) -> Answered
-    ensures { result ≡ refused_by answer }
+fn refused(refusal: Refusal) -> Answered
+    ensures { result ≡ refused_by (refusal_number refusal) }
 {
     Answered {
-        answer,
+        answer: usize::from(refusal),
         texel: texel_of(Samples {
             r: Sample::Byte(0),
             g: Sample::Byte(0),
@@ -148,9 +149,8 @@ fn refused(answer: usize) -> Answered
 pub fn texel_channels(s: &[u8], f: Footprint, t: usize) -> Answered
     ensures { result ≡ texel_answered s.now f t }
 {
-    let a = block_refusal::texel_refusal(s.len(), f, t);
-    if a != 0 {
-        return refused(a);
+    match block_refusal::texel_refusal(s.len(), f, t) {
+        Ok(()) => texel_at(s, f, t),
+        Err(refusal) => refused(refusal),
     }
-    texel_at(s, f, t)
 }

@@ -1,22 +1,24 @@
 // An image painted whole, or in steps by a cursor.
 #![tactic(auto)]
 
-ghost use Rattle.std.specs.Prelude.{◌≡◌, ◌+◌, ◌^◌, ◌<◌, min, length};
+ghost use Rattle.std.specs.Prelude.{◌≡◌, ◌+◌, ◌^◌, ◌<◌, length};
+ghost use Rattle.answers.specs.Results.{refusal_number, refused};
 ghost use Rattle.image_shape.specs.Shapes.{refusal_of};
 ghost use Rattle.image.specs.Image.{image_of, refused_at, moved_by, step_of, stepped};
 
+use answers::{Refusal, Verdict};
 use image_shape::Shape;
 
 // An image on its way: the blocks before `next` are painted.
-#[derive(Clone, Copy)]
+#[derive(Clone, Copy, Debug, PartialEq, Eq, Hash)]
 pub struct Cursor {
     pub shape: Shape,
     pub next: usize,
 }
 
 // What a step comes to: its answer, the cursor for the next one, the blocks painted, and how many
-// of them break a rule.
-#[derive(Clone, Copy)]
+// of them break a rule. The answer is a number because the definition step_of has it so.
+#[derive(Clone, Copy, Debug, PartialEq, Eq, Hash)]
 pub struct Step {
     pub answer: usize,
     pub cursor: Cursor,
@@ -24,25 +26,12 @@ pub struct Step {
     pub bad: usize,
 }
 
-fn smaller(a: usize, b: usize) -> usize
-    ensures { result ≡ min a b }
+fn refused(c: Cursor, refusal: Refusal) -> Step
+    ensures { result ≡ refused_at c (refusal_number refusal) }
 {
-    if a < b {
-        return a;
-    }
-    b
-}
-
-fn refused(c: Cursor, answer: usize) -> Step
-    ensures { result ≡ refused_at c answer }
-{
-    let shape = c.shape;
     Step {
-        answer,
-        cursor: Cursor {
-            shape,
-            next: c.next,
-        },
+        answer: usize::from(refusal),
+        cursor: c,
         painted: 0,
         bad: 0,
     }
@@ -53,31 +42,26 @@ fn moved(c: Cursor, n: usize, bad: usize) -> Step
     requires { c.next + n < 2 ^ 64 }
     ensures { result ≡ moved_by c n bad }
 {
-    let shape = c.shape;
     Step {
-        answer: answers::LEGAL,
+        answer: usize::from(Verdict::Legal),
         cursor: Cursor {
-            shape,
             next: c.next + n,
+            ..c
         },
         painted: n,
         bad,
     }
 }
 
-// Paints the image of its blocks' bytes and gives the answer; a refusal leaves the output as it
-// was.
-pub fn decode_astc(data: &[u8], m: Shape, out: &mut [u32]) -> usize
-    ensures value { result ≡ refusal_of m (length «data».now) (length out.old) }
+// Paints the image of its blocks' bytes; a refusal leaves the output as it was.
+pub fn decode_astc(data: &[u8], m: Shape, out: &mut [u32]) -> Result<(), Refusal>
+    ensures value { refused result ≡ refusal_of m (length «data».now) (length out.old) }
     ensures out_after { out.new ≡ image_of «data».now m out.old }
 {
-    let a = image_shape::refusal(m, data.len(), out.len());
-    if a != 0 {
-        return a;
-    }
-    let end = image_shape::total(m);
-    image_blocks::paint_blocks(data, m, 0, end, out);
-    answers::LEGAL
+    let bounded = image_shape::refusal(m, data.len(), out.len())?;
+    let end = image_shape::total(bounded);
+    image_blocks::paint_blocks(data, bounded, 0, end, out);
+    Ok(())
 }
 
 impl Cursor {
@@ -89,15 +73,16 @@ impl Cursor {
         ensures out_after { out.new ≡
             stepped «data».now self blocks out.old }
     {
-        let m = self.shape;
         let next = self.next;
-        let a = image_shape::step_refusal(m, next, data.len(), blocks, out.len());
-        if a != 0 {
-            return refused(self, a);
+        let checked = image_shape::step_refusal(self.shape, next, data.len(), blocks, out.len());
+        match checked {
+            Ok(bounded) => {
+                let end = image_shape::total(bounded);
+                let n = blocks.min(end - next);
+                let bad = image_blocks::paint_blocks(data, bounded, next, next + n, out);
+                moved(self, n, bad)
+            }
+            Err(refusal) => refused(self, refusal),
         }
-        let end = image_shape::total(m);
-        let n = smaller(blocks, end - next);
-        let bad = image_blocks::paint_blocks(data, m, next, next + n, out);
-        moved(self, n, bad)
     }
 }

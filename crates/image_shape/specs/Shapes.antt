@@ -1,7 +1,9 @@
 -- An image's shape: its blocks row by row, the edge blocks clipped. The bytes d are sixteen for each block.
 -- Assumes nothing.
-use Rattle.std.specs.Prelude.{Bool, cond, not, ◌&&◌, List, ℕ, ◌+◌, ◌-◌, ◌*◌, ◌/◌, ◌%◌, eqb, leb, ltb, take, drop}
+use Rattle.std.specs.Prelude.{Bool, cond, not, ◌&&◌, List, ℕ, ◌+◌, ◌-◌, ◌*◌, ◌/◌, ◌%◌, eqb, leb, ltb, take, drop, Result, Ok, Err}
 use Rattle.answers.specs.Answers.{not_listed, image_side, data_length, output_too_short, no_blocks, past_the_end}
+use Rattle.answers.specs.Results.{refusal_number}
+use Rattle.answers.specs.declared.Refusal.{Refusal}
 use Rattle.footprint.specs.Footprints.{footprint, listed}
 use Rattle.image_shape.specs.declared.Shape.{Shape}
 
@@ -42,6 +44,18 @@ longest_side = 4096
 
 abbrev pub is_side : ℕ → Bool
 is_side n = leb 1 n && leb n longest_side
+
+-- 0 where a check gives what it was asked for, and else why not
+abbrev pub checked : {T : Type 0} → Result T Refusal → ℕ
+checked (Ok value) = 0
+checked (Err refusal) = refusal_number refusal
+
+-- 0, or why no image has this shape
+unfoldable pub shape_refusal : Shape → ℕ
+shape_refusal m =
+    cond (not (listed m.footprint)) not_listed
+    (cond (not (is_side m.width && is_side m.height)) image_side
+    0)
 
 -- 0, or why an image of this shape with so many bytes and so much room is refused
 unfoldable pub refusal_of : Shape → ℕ → ℕ → ℕ

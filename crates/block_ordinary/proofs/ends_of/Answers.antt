@@ -2,7 +2,6 @@
 use mathlib.Core.Path.{refl}
 use Prim.Native.Nat.{ℕ}
 use native.Mathlib.Omega.{arith}
-use borrow.Author.Rules.{rules}
 use Rattle.bits.specs.Bits.{bits_at}
 use Rattle.bits.specs.Blocks.{value_of}
 use Rattle.sequence_ranges.specs.Ranges.{total_of}
@@ -11,12 +10,12 @@ use Rattle.block_ordinary.proofs.ends_of.Goals as goal
 
 pub decode_intseq-requires : goal.decode_intseq-requires
 decode_intseq-requires c =
-    let f = c.requires.1.1 in
-    (refl, c.requires.0, c.requires.1.0, range-legal _ _ f.most c.range_of.ensures, omega (arith, f.values), f.low)
+    let f = c.requires in
+    (refl, range-legal _ _ f.most c.range_of.ensures, omega (arith, f.values), f.low)
 
 pub unquantize-requires : goal.unquantize-requires
 unquantize-requires c =
-    let f = c.requires.1.1 in
+    let f = c.requires in
     let k = c.args.p.config in
     let e = c.range_of.ensures in
     let d = c.decode_intseq.ensures in
@@ -25,9 +24,9 @@ unquantize-requires c =
 
 pub decode_endpoints-requires : goal.decode_endpoints-requires
 decode_endpoints-requires c =
-    let f = c.requires.1.1 in
+    let f = c.requires in
     record { le_parts = (f.part, f.parts); by_index = λ i h. f.modes i; parts_bound = rw f.count f.values }
 
 pub returns : goal.returns
 returns c =
-    ends_is c.args.p _ c.requires.1.1 _ _ _ _ c.range_of.ensures c.decode_intseq.ensures c.unquantize.ensures c.decode_endpoints.ensures
+    ends_is c.args.p _ c.requires _ _ _ _ c.range_of.ensures c.decode_intseq.ensures c.unquantize.ensures c.decode_endpoints.ensures

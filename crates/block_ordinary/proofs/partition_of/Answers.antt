@@ -1,6 +1,5 @@
 -- One partition leaves the zeros; more are selected.
 use Rattle.block_ordinary.specs.Parts.{partitions-one, partitions-more}
-use borrow.Author.Rules.{rules}
 use Rattle.block_ordinary.proofs.partition_of.Goals as goal
 
 pub returns-then-k-eq1 : goal.returns-then-k-eq1

@@ -1,18 +1,17 @@
 -- `block_ordinary::put_ordinary` meets its contract: what the parts promise is what both forms ask, and the lanes are those of the parts. Assumes nothing.
 use Rattle.block_ordinary.specs.Parts.{paint-given, words-put, samples-put}
 use mathlib.Core.Path.{refl}
-use borrow.Author.Rules.{rules}
 use Rattle.block_ordinary.proofs.put_ordinary.Goals as goal
 
-pub applicate_color-requires : goal.applicate_color-requires
-applicate_color-requires c =
-    let k = c.requires.1 in
-    paint-given c.args.p c.args.f k.facts _ _ _ _ _ _ refl k.sides.texels c.ends_of.ensures c.weights_of.ensures c.partition_of.ensures
+pub invariant_of-d : goal.invariant_of-d
+invariant_of-d c =
+    let k = c.requires in
+    record { given = paint-given c.args.p c.args.f k.facts _ _ _ _ _ _ refl k.sides.texels c.ends_of.ensures c.weights_of.ensures c.partition_of.ensures }
 
-pub put_samples-requires : goal.put_samples-requires
-put_samples-requires c =
-    let k = c.requires.1 in
-    paint-given c.args.p c.args.f k.facts _ _ _ _ _ _ refl k.sides.texels c.ends_of.ensures c.weights_of.ensures c.partition_of.ensures
+pub invariant_of-d-in-Samples : goal.invariant_of-d-in-Samples
+invariant_of-d-in-Samples c =
+    let k = c.requires in
+    record { given = paint-given c.args.p c.args.f k.facts _ _ _ _ _ _ refl k.sides.texels c.ends_of.ensures c.weights_of.ensures c.partition_of.ensures }
 
 pub returns-in-Words : goal.returns-in-Words
 returns-in-Words c =

@@ -3,7 +3,6 @@ use native.Mathlib.Nat.{mul-le-mul}
 use Rattle.block_ordinary.specs.Parts.{range-legal, weights-given, weights-is}
 use mathlib.Core.Path.{refl}
 use native.Mathlib.Omega.{arith}
-use borrow.Author.Rules.{rules}
 use Rattle.block_ordinary.proofs.weights_of.Goals as goal
 
 pub overflow_mul-k : goal.overflow_mul-k
@@ -20,7 +19,7 @@ pub decode_intseq_reverse-requires : goal.decode_intseq_reverse-requires
 decode_intseq_reverse-requires c =
     let p = c.requires in
     let k = p.ready in
-    (refl, p.lent.trits, p.lent.quints, range-legal _ _ (omega (arith, k.facts.weight-range)) c.range_of.ensures, k.fits.few)
+    (refl, range-legal _ _ (omega (arith, k.facts.weight-range)) c.range_of.ensures, k.fits.few)
 
 pub decode_weights-requires : goal.decode_weights-requires
 decode_weights-requires c =

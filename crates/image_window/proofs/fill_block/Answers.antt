@@ -1,4 +1,5 @@
 -- Each arm fills the rows of the block's window, by its number of columns.
+use Rattle.std.proofs.Common.{rules}
 use lib.ListN.{length}
 use Rattle.image_shape.specs.Shapes.{pixels_of}
 use Rattle.image_shape.specs.ShapeLaws.{ShapeBounds}
@@ -13,9 +14,9 @@ use mathlib.Core.Path.{◌≡◌, refl}
 use native.Mathlib.Omega.{arith}
 use Rattle.image_window.proofs.fill_block.Goals as goal
 
-module _ (m : Shape) (x y word : ℕ) (out : List ℕ) (p : (ShapeBounds m) × ((Inside m x y) × (pixels_of m ≤ length out))) (w : Window) (n : ℕ) (e : w ≡ window_of m (block_at m x y)) (k : w.columns ≡ n) where
+module _ (m : Shape) (b : ShapeBounds m) (x y word : ℕ) (out : List ℕ) (p : (Inside m x y) × (pixels_of m ≤ length out)) (w : Window) (n : ℕ) (e : w ≡ window_of m (block_at m x y)) (k : w.columns ≡ n) where
   fits : RowsFit w.at m.width n w.rows (length out)
-  fits = window-fits _ p.0 _ (block-lt _ _ _ p.1.0) w n e k _ p.1.1
+  fits = window-fits _ b _ (block-lt _ _ _ p.0) w n e k _ p.1
 
   -- and so do fewer columns
   fewer : (k : ℕ) → k ≤ n → RowsFit w.at m.width k w.rows (length out)
@@ -23,60 +24,53 @@ module _ (m : Shape) (x y word : ℕ) (out : List ℕ) (p : (ShapeBounds m) × (
 
   painted : (t : List ℕ) → t ≡ rows_put (λ (y x : ℕ). word) w.at m.width n w.rows out
       → t ≡ marked (is_in m (block_at m x y) (block_at m x y + 1)) (λ (k : ℕ). word) out
-  painted t d = window-painted _ p.0 _ (block-lt _ _ _ p.1.0) (λ (i : ℕ). word) w n _ t e k d
+  painted t d = window-painted _ b _ (block-lt _ _ _ p.0) (λ (i : ℕ). word) w n _ t e k d
 
-pub fill_rows-requires : goal.fill_rows-requires
-fill_rows-requires c =
-    fits c.args.m c.args.x c.args.y c.args.word c.args.out.now c.requires _ _ c.window_of-w.ensures c.in-4.is
+pub put_rows-requires-whole : goal.put_rows-requires-whole
+put_rows-requires-whole c = λ k. let f = fits _ c.args.m.bounds c.args.x c.args.y c.args.word c.args.out.now c.requires _ _ c.window_of-w.ensures c.in-4.is in search (rules, f)
 
-pub fill_rows-requires-in-5 : goal.fill_rows-requires-in-5
-fill_rows-requires-in-5 c =
-    fits c.args.m c.args.x c.args.y c.args.word c.args.out.now c.requires _ _ c.window_of-w.ensures c.in-5.is
+pub put_rows-requires-in-5-whole : goal.put_rows-requires-in-5-whole
+put_rows-requires-in-5-whole c = λ k. let f = fits _ c.args.m.bounds c.args.x c.args.y c.args.word c.args.out.now c.requires _ _ c.window_of-w.ensures c.in-5.is in search (rules, f)
 
-pub fill_rows-requires-in-6 : goal.fill_rows-requires-in-6
-fill_rows-requires-in-6 c =
-    fits c.args.m c.args.x c.args.y c.args.word c.args.out.now c.requires _ _ c.window_of-w.ensures c.in-6.is
+pub put_rows-requires-in-6-whole : goal.put_rows-requires-in-6-whole
+put_rows-requires-in-6-whole c = λ k. let f = fits _ c.args.m.bounds c.args.x c.args.y c.args.word c.args.out.now c.requires _ _ c.window_of-w.ensures c.in-6.is in search (rules, f)
 
-pub fill_rows-requires-in-8 : goal.fill_rows-requires-in-8
-fill_rows-requires-in-8 c =
-    fits c.args.m c.args.x c.args.y c.args.word c.args.out.now c.requires _ _ c.window_of-w.ensures c.in-8.is
+pub put_rows-requires-in-8-whole : goal.put_rows-requires-in-8-whole
+put_rows-requires-in-8-whole c = λ k. let f = fits _ c.args.m.bounds c.args.x c.args.y c.args.word c.args.out.now c.requires _ _ c.window_of-w.ensures c.in-8.is in search (rules, f)
 
-pub fill_rows-requires-in-10 : goal.fill_rows-requires-in-10
-fill_rows-requires-in-10 c =
-    fits c.args.m c.args.x c.args.y c.args.word c.args.out.now c.requires _ _ c.window_of-w.ensures c.in-10.is
+pub put_rows-requires-in-10-whole : goal.put_rows-requires-in-10-whole
+put_rows-requires-in-10-whole c = λ k. let f = fits _ c.args.m.bounds c.args.x c.args.y c.args.word c.args.out.now c.requires _ _ c.window_of-w.ensures c.in-10.is in search (rules, f)
 
-pub fill_rows-requires-in-12 : goal.fill_rows-requires-in-12
-fill_rows-requires-in-12 c =
-    fewer c.args.m c.args.x c.args.y c.args.word c.args.out.now c.requires _ _ c.window_of-w.ensures c.in-12.is _ (omega arith)
+pub put_rows-requires-in-12-whole : goal.put_rows-requires-in-12-whole
+put_rows-requires-in-12-whole c = λ k. let f = fewer _ c.args.m.bounds c.args.x c.args.y c.args.word c.args.out.now c.requires _ _ c.window_of-w.ensures c.in-12.is in search (rules, f)
 
-pub fill_rows-requires-in_default : goal.fill_rows-requires-in_default
-fill_rows-requires-in_default c =
-    fits c.args.m c.args.x c.args.y c.args.word c.args.out.now c.requires _ _ c.window_of-w.ensures (refl)
+pub put_rows-requires-in_default-whole : goal.put_rows-requires-in_default-whole
+put_rows-requires-in_default-whole c = λ k. let f = fits _ c.args.m.bounds c.args.x c.args.y c.args.word c.args.out.now c.requires _ _ c.window_of-w.ensures refl in search (rules, f)
 
 pub returns-in-4 : goal.returns-in-4
 returns-in-4 c =
-    painted c.args.m c.args.x c.args.y c.args.word c.args.out.now c.requires _ _ c.window_of-w.ensures c.in-4.is _ c.fill_rows.ensures
+    painted _ c.args.m.bounds c.args.x c.args.y c.args.word c.args.out.now c.requires _ _ c.window_of-w.ensures c.in-4.is _ c.put_rows.ensures
 
 pub returns-in-5 : goal.returns-in-5
 returns-in-5 c =
-    painted c.args.m c.args.x c.args.y c.args.word c.args.out.now c.requires _ _ c.window_of-w.ensures c.in-5.is _ c.fill_rows-in-5.ensures
+    painted _ c.args.m.bounds c.args.x c.args.y c.args.word c.args.out.now c.requires _ _ c.window_of-w.ensures c.in-5.is _ c.put_rows-in-5.ensures
 
 pub returns-in-6 : goal.returns-in-6
 returns-in-6 c =
-    painted c.args.m c.args.x c.args.y c.args.word c.args.out.now c.requires _ _ c.window_of-w.ensures c.in-6.is _ c.fill_rows-in-6.ensures
+    painted _ c.args.m.bounds c.args.x c.args.y c.args.word c.args.out.now c.requires _ _ c.window_of-w.ensures c.in-6.is _ c.put_rows-in-6.ensures
 
 pub returns-in-8 : goal.returns-in-8
 returns-in-8 c =
-    painted c.args.m c.args.x c.args.y c.args.word c.args.out.now c.requires _ _ c.window_of-w.ensures c.in-8.is _ c.fill_rows-in-8.ensures
+    painted _ c.args.m.bounds c.args.x c.args.y c.args.word c.args.out.now c.requires _ _ c.window_of-w.ensures c.in-8.is _ c.put_rows-in-8.ensures
 
 pub returns-in-10 : goal.returns-in-10
 returns-in-10 c =
-    painted c.args.m c.args.x c.args.y c.args.word c.args.out.now c.requires _ _ c.window_of-w.ensures c.in-10.is _ c.fill_rows-in-10.ensures
+    painted _ c.args.m.bounds c.args.x c.args.y c.args.word c.args.out.now c.requires _ _ c.window_of-w.ensures c.in-10.is _ c.put_rows-in-10.ensures
 
 pub returns-in-12 : goal.returns-in-12
 returns-in-12 c =
-    painted c.args.m c.args.x c.args.y c.args.word c.args.out.now c.requires _ _ c.window_of-w.ensures c.in-12.is _ c.fill_rows-in-12.ensures
+    painted _ c.args.m.bounds c.args.x c.args.y c.args.word c.args.out.now c.requires _ _ c.window_of-w.ensures c.in-12.is _ c.put_rows-in-12.ensures
 
 pub returns-in_default : goal.returns-in_default
 returns-in_default c =
-    painted c.args.m c.args.x c.args.y c.args.word c.args.out.now c.requires _ _ c.window_of-w.ensures (refl) _ c.fill_rows-in_default.ensures
+    painted _ c.args.m.bounds c.args.x c.args.y c.args.word c.args.out.now c.requires _ _ c.window_of-w.ensures refl _ c.put_rows-in_default.ensures

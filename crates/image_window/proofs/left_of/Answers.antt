@@ -6,7 +6,7 @@ use native.Mathlib.Omega.{arith}
 use Rattle.image_window.proofs.left_of.Goals as goal
 
 pub overflow_mul-result : goal.overflow_mul-result
-overflow_mul-result c = let l : c.args.x * c.args.m.footprint.width < c.args.m.width = starts-inside c.args.m.width c.args.m.footprint.width c.args.x c.requires.0.sides.column c.requires.1 in omega (arith, l, c.requires.0.width.1)
+overflow_mul-result c = let l : c.args.x * c.args.m.shape.footprint.width < c.args.m.shape.width = starts-inside c.args.m.shape.width c.args.m.shape.footprint.width c.args.x c.args.m.bounds.sides.column c.requires in omega (arith, l, c.args.m.bounds.width.1)
 
 pub returns : goal.returns
-returns c = (refl, starts-inside c.args.m.width c.args.m.footprint.width c.args.x c.requires.0.sides.column c.requires.1)
+returns c = (refl, starts-inside c.args.m.shape.width c.args.m.shape.footprint.width c.args.x c.args.m.bounds.sides.column c.requires)

@@ -6,7 +6,7 @@ use native.Mathlib.Omega.{arith}
 use Rattle.image_window.proofs.top_of.Goals as goal
 
 pub overflow_mul-result : goal.overflow_mul-result
-overflow_mul-result c = let l : c.args.y * c.args.m.footprint.height < c.args.m.height = starts-inside c.args.m.height c.args.m.footprint.height c.args.y c.requires.0.sides.row c.requires.1 in omega (arith, l, c.requires.0.height.1)
+overflow_mul-result c = let l : c.args.y * c.args.m.shape.footprint.height < c.args.m.shape.height = starts-inside c.args.m.shape.height c.args.m.shape.footprint.height c.args.y c.args.m.bounds.sides.row c.requires in omega (arith, l, c.args.m.bounds.height.1)
 
 pub returns : goal.returns
-returns c = (refl, starts-inside c.args.m.height c.args.m.footprint.height c.args.y c.requires.0.sides.row c.requires.1)
+returns c = (refl, starts-inside c.args.m.shape.height c.args.m.shape.footprint.height c.args.y c.args.m.bounds.sides.row c.requires)

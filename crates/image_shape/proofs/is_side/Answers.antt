@@ -1,9 +1,0 @@
--- By the first test.
-use borrow.Author.Tests.{lt-leb, le-leb}
-use Rattle.image_shape.proofs.is_side.Goals as goal
-
-pub returns-then-n-lt1 : goal.returns-then-n-lt1
-returns-then-n-lt1 c = rw (lt-leb 1 c.args.n c.if-n-lt1.true)
-
-pub returns : goal.returns
-returns c = rw (le-leb 1 c.args.n c.if-n-lt1.false)
