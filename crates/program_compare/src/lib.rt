@@ -12,31 +12,28 @@ fn expected(whole: &[u32], n: usize, k: usize) -> u32
     requires { k < length whole.now }
     ensures { result ≡ expected_at whole.now n k }
 {
-    if k < n {
-        return whole[k];
-    }
-    MARKER
+    if k < n { whole[k] } else { MARKER }
 }
 
 // How many of the words hold something else than they should where n words were painted, as `whole`
-// has them.
+// has them. What a word should be depends on its place, so that a chain would number the words, pair,
+// filter and count them: no plainer than the places one by one, as `differences` of the specs has them.
 pub fn count_differences(words: &[u32], whole: &[u32], n: usize) -> usize
     requires { length words.now ≡ length whole.now }
     ensures { result ≡
         differences words.now whole.now n (length words.now) }
 {
     let mut found = 0;
-    let mut k = 0;
-    while k < words.len() {
+    for k in 0..words.len() {
         found += program_counts::one_if(words[k] != expected(whole, n, k));
-        k += 1;
     }
     found
 }
 
 // What a walk in steps came to: whether it still moved, the blocks painted, those that break a
-// rule, and the steps refused.
-#[derive(Clone, Copy)]
+// rule, and the steps refused. Whether it moved stands in a flag since `differs_from` of the specs,
+// which `differs` promises, reads it there.
+#[derive(Clone, Copy, Debug, PartialEq, Eq, Hash)]
 pub struct Came {
     pub moving: bool,
     pub painted: usize,
@@ -46,20 +43,9 @@ pub struct Came {
 
 // Whether a walk over an image of so many blocks, of which so many break a rule, left any other
 // words or counts than it should.
+#[tactic(auto, unfolding(crate::specs::Compare::differs_from))]
 pub fn differs(w: Came, blocks: usize, bad: usize, found: usize) -> bool
     ensures { result ≡ differs_from w blocks bad found }
 {
-    if w.moving {
-        return true;
-    }
-    if w.refused != 0 {
-        return true;
-    }
-    if w.painted != blocks {
-        return true;
-    }
-    if w.bad != bad {
-        return true;
-    }
-    found != 0
+    w.moving || w.refused != 0 || w.painted != blocks || w.bad != bad || found != 0
 }

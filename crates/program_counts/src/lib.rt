@@ -8,15 +8,12 @@ ghost use Rattle.program_counts.specs.Counts.{more};
 pub fn added(count: usize, n: usize) -> usize
     ensures { result ≡ more count n }
 {
-    if usize::MAX - n < count {
-        return usize::MAX;
-    }
-    count + n
+    count.saturating_add(n)
 }
 
 // What a test adds to a count of the tests that hold.
 pub fn one_if(holds: bool) -> usize
     ensures { (result ≡ cond holds 1 0) × (result ≤ 1) }
 {
-    if holds { 1 } else { 0 }
+    usize::from(holds)
 }

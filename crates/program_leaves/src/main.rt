@@ -11,12 +11,11 @@ mod numbers;
 mod parameters;
 mod sequences;
 
-// The number of the standard output.
-const STDOUT: i32 = 1;
+use program_text::{STDIN, STDOUT};
 
+// What is asked for is a number, as the Rust side writes it.
 fn reply(out: &mut [u8; 288], ask: &[u8; 32]) {
-    let what = frame::at(ask, 0);
-    match what {
+    match ask[0] {
         1 => sequences::reply_bits(out, ask),
         2 => sequences::reply_tables(out, ask),
         3 => sequences::reply_sequence(out, ask),
@@ -31,26 +30,23 @@ fn reply(out: &mut [u8; 288], ask: &[u8; 32]) {
     }
 }
 
-fn send(out: &[u8; 288]) -> bool {
-    io::write_all(STDOUT, &out[..])
-}
-
 // Answers one request, and says whether there was one.
 fn answer() -> bool {
     let mut ask = [0u8; 32];
-    if io::read_full(0, &mut ask) < 32 {
+    if io::read_full(STDIN, &mut ask) < 32 {
         return false;
     }
     let mut out = [0u8; 288];
     reply(&mut out, &ask);
-    send(&out)
+    io::write_all(STDOUT, &out)
 }
 
-// A proved loop has to end, and nothing says that the requests do: it counts down from a number
-// that no run uses up.
+// A proved loop has to end, and nothing says that the requests do: it has more turns than any run
+// uses.
 fn main() {
-    let mut turns = u64::MAX;
-    while turns > 0 && answer() {
-        turns -= 1;
+    for _ in 0..u64::MAX {
+        if !answer() {
+            break;
+        }
     }
 }

@@ -1,11 +1,11 @@
 // Answers on halves, blended channels and words.
 ghost use Rattle.std.specs.Prelude.{◌≤◌, ◌<◌};
 
-use crate::{frame, sequences};
+use crate::frame;
 
 // The bits of a float, and all ones for a NaN.
 fn float_bits(f: f32) -> u32 {
-    if f != f { 0xffff_ffff } else { f32::to_bits(f) }
+    if f.is_nan() { 0xffff_ffff } else { f.to_bits() }
 }
 
 fn put_half(out: &mut [u8; 288], i: usize, h: u16)
@@ -13,9 +13,9 @@ fn put_half(out: &mut [u8; 288], i: usize, h: u16)
 {
     frame::put_u32(out, i, float_bits(half::fp16_ieee_to_fp32_value(h)));
     frame::put_u32(out, i + 4, float_bits(half::half_times_255(h)));
-    frame::put(out, i + 8, frame::usize_of(half::f16_to_u8(h)));
+    out[i + 8] = half::f16_to_u8(h);
     if h < 32768 {
-        frame::put(out, i + 9, frame::usize_of(half::hdr_to_u8(h)));
+        out[i + 9] = half::hdr_to_u8(h);
     }
 }
 
@@ -23,60 +23,55 @@ fn put_half(out: &mut [u8; 288], i: usize, h: u16)
 // without a sign alone.
 pub(crate) fn reply_halves(out: &mut [u8; 288], ask: &[u8; 32]) {
     let first = frame::pair_at(ask, 1);
-    let mut i = 0;
-    while i < 16 {
-        put_half(out, 10 * i, ((first + i) % 65536) as u16);
-        i += 1;
+    for i in 0..16 {
+        put_half(out, 10 * usize::from(i), first.wrapping_add(i));
     }
 }
 
-fn ldr(v0: usize, v1: usize, w: usize) -> usize
+// The channel of two endpoints at a weight by the LDR formula, 0 where an endpoint is out of its bounds.
+// The other two rules are asked in the same way, each within bounds of its own: a common function over
+// a closure would need those bounds in the closure's contract, and is no plainer.
+fn ldr(v0: u16, v1: u16, w: u16) -> u8
     requires { w ≤ 64 }
 {
-    if 286 < v0 {
-        return 0;
+    if v0 <= 286 && v1 <= 286 {
+        blend::select_color(u32::from(v0), u32::from(v1), u32::from(w))
+    } else {
+        0
     }
-    if 286 < v1 {
-        return 0;
-    }
-    frame::usize_of(blend::select_color(v0 as u32, v1 as u32, w as u32))
 }
 
-fn ldr_byte(v0: usize, v1: usize, w: usize) -> usize
+// The same by the LDR rule in 16 bits.
+fn ldr_byte(v0: u16, v1: u16, w: u16) -> usize
     requires { w ≤ 64 }
 {
-    if 255 < v0 {
-        return 0;
+    if v0 <= 255 && v1 <= 255 {
+        usize::from(blend::select_color_byte(v0, v1, w))
+    } else {
+        0
     }
-    if 255 < v1 {
-        return 0;
-    }
-    sequences::usize_of_entry(blend::select_color_byte(v0 as u16, v1 as u16, w as u16))
 }
 
-fn hdr(v0: usize, v1: usize, w: usize) -> usize
+// The same by the HDR rule.
+fn hdr(v0: u16, v1: u16, w: u16) -> u8
     requires { w ≤ 64 }
 {
-    if 4095 < v0 {
-        return 0;
+    if v0 <= 4095 && v1 <= 4095 {
+        blend::select_color_hdr(u32::from(v0), u32::from(v1), u32::from(w))
+    } else {
+        0
     }
-    if 4095 < v1 {
-        return 0;
-    }
-    frame::usize_of(blend::select_color_hdr(v0 as u32, v1 as u32, w as u32))
 }
 
-// Answers with the channels of two endpoints at all weights: LDR by the formula, LDR in 16 bits,
-// and HDR.
+// Answers with the channels of two endpoints at all weights, by each of the three rules.
 pub(crate) fn reply_blend(out: &mut [u8; 288], ask: &[u8; 32]) {
     let v0 = frame::pair_at(ask, 1);
     let v1 = frame::pair_at(ask, 3);
-    let mut w = 0;
-    while w <= 64 {
-        frame::put(out, w, ldr(v0, v1, w));
-        frame::put(out, 65 + w, ldr_byte(v0, v1, w));
-        frame::put(out, 130 + w, hdr(v0, v1, w));
-        w += 1;
+    for w in 0..65 {
+        let i = usize::from(w);
+        out[i] = ldr(v0, v1, w);
+        frame::put(out, 65 + i, ldr_byte(v0, v1, w));
+        out[130 + i] = hdr(v0, v1, w);
     }
 }
 

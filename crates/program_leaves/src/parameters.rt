@@ -1,5 +1,6 @@
 // Answers on the parameters of a block.
 use crate::frame;
+use answers::Verdict;
 use params::Params;
 use params_config::Config;
 use params_map::BlockMap;
@@ -21,12 +22,8 @@ fn put_params(out: &mut [u8; 288], p: Params) {
     frame::put(out, 0, p.answer);
     put_config(out, k);
     frame::put(out, 10, p.channel);
-    let m = p.modes;
-    frame::put(out, 11, frame::usize_of(m[0]));
-    frame::put(out, 12, frame::usize_of(m[1]));
-    frame::put(out, 13, frame::usize_of(m[2]));
-    frame::put(out, 14, frame::usize_of(m[3]));
-    frame::put_pair(out, 15, k.number);
+    frame::put_bytes(out, 11, &p.modes);
+    frame::put_u16(out, 15, (k.number % 65536) as u16);
     frame::put(out, 17, p.endpoint_range);
 }
 
@@ -46,11 +43,9 @@ fn put_map(out: &mut [u8; 288], m: BlockMap) {
 pub(crate) fn reply_params(out: &mut [u8; 288], ask: &[u8; 32]) {
     let f = frame::footprint_at(ask, 1);
     let b = frame::block_of(ask);
-    if footprint::is_listed(f) {
-        frame::put(out, 26, 1);
-    }
+    frame::put(out, 26, usize::from(footprint::is_listed(f)));
     if params_low::is_void(b) {
-        frame::put(out, 0, answers::VOID_EXTENT);
+        frame::put(out, 0, usize::from(Verdict::VoidExtent));
         return;
     }
     put_params(out, params::decode_block_params(b, f));

@@ -7,10 +7,6 @@ use crate::frame;
 use bits::Block;
 use sequence_ranges::Range;
 
-pub(crate) fn usize_of_entry(x: u16) -> usize {
-    x as usize
-}
-
 // Answers with a field of the block and with the block reversed.
 pub(crate) fn reply_bits(out: &mut [u8; 288], ask: &[u8; 32]) {
     let b = frame::block_of(ask);
@@ -27,18 +23,8 @@ pub(crate) fn reply_bits(out: &mut [u8; 288], ask: &[u8; 32]) {
 // Answers with an entry of each table.
 pub(crate) fn reply_tables(out: &mut [u8; 288], ask: &[u8; 32]) {
     let i = frame::at(ask, 1);
-    let trits = sequence_ranges::trits();
-    let quints = sequence_ranges::quints();
-    frame::put_pair(out, 0, usize_of_entry(trits[i]));
-    frame::put_pair(out, 2, usize_of_entry(quints[i % 128]));
-}
-
-fn put_values(out: &mut [u8; 288], seq: &[u8; 72]) {
-    let mut i = 0;
-    while i < 72 {
-        out[i] = seq[i];
-        i += 1;
-    }
+    frame::put_u16(out, 0, sequence_ranges::trits()[i]);
+    frame::put_u16(out, 2, sequence_ranges::quints()[i % 128]);
 }
 
 fn legal_range(q: usize) -> Range
@@ -48,34 +34,23 @@ fn legal_range(q: usize) -> Range
     sequence_ranges::range_of(q)
 }
 
-// The n values of a sequence of range q, read upwards from bit `offset` or downwards from the
-// block's end.
-pub(crate) fn values_of(b: Block, q: usize, n: usize, offset: usize, down: bool) -> [u8; 72]
+// The n values of a sequence of range q, read upwards from bit `offset`.
+pub(crate) fn values_of(b: Block, q: usize, n: usize, offset: usize) -> [u8; 72]
     requires { (q < 21) × ((n ≤ 64) × (offset ≤ 128)) }
     ensures { ValuesIn q n result }
 {
-    let r = legal_range(q);
     let mut seq = [0u8; 72];
-    if down {
-        sequence::decode_intseq_reverse(
-            &mut seq,
-            &sequence_ranges::trits(),
-            &sequence_ranges::quints(),
-            b,
-            r,
-            n,
-        );
-        return seq;
-    }
-    sequence::decode_intseq(
-        &mut seq,
-        &sequence_ranges::trits(),
-        &sequence_ranges::quints(),
-        b,
-        offset,
-        r,
-        n,
-    );
+    sequence::decode_intseq(&mut seq, b, offset, legal_range(q), n);
+    seq
+}
+
+// The n values of a sequence of range q, read downwards from the block's end.
+pub(crate) fn values_down(b: Block, q: usize, n: usize) -> [u8; 72]
+    requires { (q < 21) × (n ≤ 64) }
+    ensures { ValuesIn q n result }
+{
+    let mut seq = [0u8; 72];
+    sequence::decode_intseq_reverse(&mut seq, b, legal_range(q), n);
     seq
 }
 
@@ -83,15 +58,12 @@ pub(crate) fn reply_sequence(out: &mut [u8; 288], ask: &[u8; 32]) {
     let q = frame::at(ask, 1);
     let n = frame::at(ask, 2);
     let offset = frame::at(ask, 3);
-    if 21 <= q {
-        return;
+    if q < 21 && n <= 64 && offset <= 128 {
+        let b = frame::block_of(ask);
+        let seq = match ask[4] {
+            1 => values_down(b, q, n),
+            _ => values_of(b, q, n, offset),
+        };
+        frame::put_bytes(out, 0, &seq);
     }
-    if 64 < n {
-        return;
-    }
-    if 128 < offset {
-        return;
-    }
-    let seq = values_of(frame::block_of(ask), q, n, offset, frame::at(ask, 4) == 1);
-    put_values(out, &seq);
 }

@@ -7,38 +7,30 @@ ghost use Rattle.std.specs.Prelude.{◌≡◌, ◌≤◌, length};
 ghost use Rattle.program_text.specs.Text.{Placed};
 ghost use Rattle.program_listing.specs.Listing.{answer_in, words_in, record_line};
 
+use answers::Refusal;
 use footprint::{Footprint, TEXELS};
+use program_text::{STDERR, STDIN, STDOUT};
 use std::io::Read;
 
-// The numbers of the standard streams.
-const STDIN: i32 = 0;
-
-const STDOUT: i32 = 1;
-
-const STDERR: i32 = 2;
-
-fn usize_of(x: u8) -> usize
-    ensures { result ≡ x }
-{
-    x as usize
-}
-
-// Paints the words of the block in a record's bytes and gives its answer.
+// Paints the words of the block in a record's bytes and gives its answer, by number as `answer_in` of
+// the specs has it. The other programs that read a footprint have its lines too: a function for all
+// would be public, with a crate for two conversions.
 fn answer_of(bytes: &[u8], words: &mut [u32]) -> usize
     ensures value { result ≡ answer_in bytes.now (length words.old) }
     ensures words_after { words.new ≡ words_in bytes.now words.old }
 {
     if bytes.len() != 18 {
-        return answers::BLOCK_LENGTH;
+        return usize::from(Refusal::BlockLength);
     }
     let f = Footprint {
-        width: usize_of(bytes[0]),
-        height: usize_of(bytes[1]),
+        width: usize::from(bytes[0]),
+        height: usize::from(bytes[1]),
     };
-    block::decode_astc_block(&bytes[2..], f, words)
+    answers::answer_number(block::decode_astc_block(&bytes[2..], f, words))
 }
 
-// Lays out the line of a record and gives its length.
+// Lays out the line of a record and gives its length. The line may be longer, as in `lay_out` of
+// program_line.
 fn lay_out_record(line: &mut [u8], number: u64, bytes: &[u8]) -> usize
     requires { 126 ≤ length line.old }
     ensures placed { Placed line.old 0 (record_line number bytes.now)
@@ -89,8 +81,9 @@ fn list(rt: &HostRuntime, number: u64) -> bool {
 // A proved loop has to end, and nothing says that the input does: it would stop at a number that no
 // run reaches.
 fn main(rt: HostRuntime) {
-    let mut number = 0;
-    while number < u64::MAX && list(&rt, number) {
-        number += 1;
+    for number in 0..u64::MAX {
+        if !list(&rt, number) {
+            break;
+        }
     }
 }

@@ -3,69 +3,51 @@
 // bytes of a block, and for each texel a word of four bytes, the low one first.
 #![tactic(auto)]
 
-ghost use Rattle.std.specs.Prelude.{◌≡◌, ◌≤◌, ◌<◌, length};
+ghost use Rattle.std.specs.Prelude.{◌≡◌};
 ghost use Rattle.program_stored.specs.Stored.{answer_in};
 ghost use Rattle.program_replay.specs.Replay.{footprint_in, replayed_in};
 
 use footprint::{Footprint, TEXELS};
 use program_compare::MARKER;
 use program_stored::Tally;
+use program_text::STDIN;
 
-// The number of the standard input.
-const STDIN: i32 = 0;
-
-fn usize_of(x: u8) -> usize
-    ensures { (result ≡ x) × (result < 256) }
-{
-    x as usize
-}
-
-// The footprint of a record.
+// The footprint of a record. The other programs that read one have these lines too: a function for all
+// would be public, with a crate for two conversions.
 fn footprint_of(head: &[u8; 19]) -> Footprint
-    ensures value { result ≡ footprint_in head.now }
-    ensures width_bound { result.width < 256 }
-    ensures height_bound { result.height < 256 }
+    ensures { result ≡ footprint_in head.now }
 {
     Footprint {
-        width: usize_of(head[0]),
-        height: usize_of(head[1]),
+        width: usize::from(head[0]),
+        height: usize::from(head[1]),
     }
 }
 
-// How the reading of a record went.
-#[derive(Clone, Copy)]
-pub enum Record {
-    Whole,
+// Why no whole record was read.
+#[derive(Clone, Copy, Debug, PartialEq, Eq, Hash)]
+pub enum NoRecord {
     Malformed,
     Missing,
 }
 
 // Reads the words of n texels.
-fn read_words(stored: &mut [u8], n: usize) -> Record
-    requires { 576 ≤ length stored.old }
-{
+fn read_words(stored: &mut [u8; 576], n: usize) -> Result<(), NoRecord> {
     if TEXELS < n {
-        return Record::Malformed;
+        return Err(NoRecord::Malformed);
     }
     let size = 4 * n;
     if io::read_full(STDIN, &mut stored[..size]) < size {
-        return Record::Malformed;
+        return Err(NoRecord::Malformed);
     }
-    Record::Whole
+    Ok(())
 }
 
-fn read_record(head: &mut [u8; 19], stored: &mut [u8]) -> Record
-    requires { 576 ≤ length stored.old }
-{
-    let got = io::read_full(STDIN, head);
-    if got == 0 {
-        return Record::Missing;
+fn read_record(head: &mut [u8; 19], stored: &mut [u8; 576]) -> Result<(), NoRecord> {
+    match io::read_full(STDIN, head) {
+        0 => Err(NoRecord::Missing),
+        1..19 => Err(NoRecord::Malformed),
+        _ => read_words(stored, usize::from(head[0]) * usize::from(head[1])),
     }
-    if got < 19 {
-        return Record::Malformed;
-    }
-    let f = footprint_of(head);
-    read_words(stored, f.width * f.height)
 }
 
 // Decodes the block of a whole record anew and counts the record, and its stored answer among the
@@ -77,40 +59,39 @@ fn replay_record(t: Tally, answers: &mut [usize; 256], head: &[u8; 19], stored: 
     let mut words = [MARKER; TEXELS];
     let f = footprint_of(head);
     let h = &head[..];
-    let answer = block::decode_astc_block(&h[3..19], f, &mut words);
+    let answer = answers::answer_number(block::decode_astc_block(&h[3..19], f, &mut words));
     program_stored::count_record(t, answers, head, stored, answer, &words)
 }
 
-// Reads a record and counts it.
+// Reads a record and counts it. Why the list ends is told by a flag, since `closed_at` of the specs,
+// which `closed` promises, has it so.
 fn replay(t: Tally, answers: &mut [usize; 256]) -> Tally {
     let mut head = [0u8; 19];
     let mut stored = [0u8; 576];
-    let read = read_record(&mut head, &mut stored);
-    match read {
-        Record::Missing => program_stored::closed(t, false),
-        Record::Malformed => program_stored::closed(t, true),
-        Record::Whole => replay_record(t, answers, &head, &stored),
+    match read_record(&mut head, &mut stored) {
+        Ok(()) => replay_record(t, answers, &head, &stored),
+        Err(why) => program_stored::closed(t, why == NoRecord::Malformed),
     }
 }
 
-// A proved loop has to end, and nothing says that the records do: it counts down from a number that
-// no run uses up.
+// A proved loop has to end, and nothing says that the records do: it has more turns than any run
+// uses.
 fn replay_all(answers: &mut [usize; 256]) -> Tally {
     let mut t = Tally {
         running: true,
-        blocks: 0,
-        words: 0,
-        different: 0,
-        malformed: 0,
+        ..Tally::default()
     };
-    let mut turns = u64::MAX;
-    while turns > 0 && t.running {
+    for _ in 0..u64::MAX {
         t = replay(t, answers);
-        turns -= 1;
+        if !t.running {
+            break;
+        }
     }
     t
 }
 
+// Each label is written out, so that it is seen to have at most the 43 bytes that `print_count` asks
+// for: a loop over labels would need that of all of them as a fact, and is no plainer.
 fn print_answers(answers: &[usize; 256]) {
     program_text::print_count(b"answer 0: ", answers[0]);
     program_text::print_count(b"answer 1: ", answers[1]);

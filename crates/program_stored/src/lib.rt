@@ -1,6 +1,7 @@
 // What a stored record of a block is, and how it is counted: whether a decoder gives its answer and
 // its words. Its head is a footprint's width and height, the answer, and the sixteen bytes of a
-// block; for each texel a word of four bytes, the low one first, is stored after it.
+// block; for each texel a word of four bytes, the low one first, is stored after it. An answer is a
+// number here, since `differs_from` and `record_in` of the specs, which the promises name, take it so.
 #![tactic(auto)]
 
 ghost use Rattle.std.specs.Prelude.{◌≡◌, ◌<◌};
@@ -9,39 +10,23 @@ ghost use Rattle.program_stored.specs.Stored.{word_at, stored_words, texels_of, 
 
 use footprint::TEXELS;
 
-fn usize_of(x: u8) -> usize
-    ensures { (result ≡ x) × (result < 256) }
-{
-    x as usize
-}
-
-fn u32_of(x: u8) -> u32
-    ensures { (result ≡ x) × (result < 256) }
-{
-    x as u32
-}
-
 // The stored word of texel k.
 fn word_at(stored: &[u8; 576], k: usize) -> u32
     requires { k < most_texels }
     ensures { result ≡ word_at stored.now k }
 {
     let at = 4 * k;
-    u32_of(stored[at])
-        + 256 * u32_of(stored[at + 1])
-        + 0x1_0000 * u32_of(stored[at + 2])
-        + 0x100_0000 * u32_of(stored[at + 3])
+    u32::from_le_bytes([stored[at], stored[at + 1], stored[at + 2], stored[at + 3]])
 }
 
-// The words that are stored, 0 after the last.
+// The words that are stored, 0 after the last. They are read by the number of their texel, since
+// `stored_words` of the specs puts them by that.
 fn stored_words(stored: &[u8; 576]) -> [u32; TEXELS]
     ensures { result ≡ stored_words stored.now }
 {
     let mut words = [0u32; TEXELS];
-    let mut k = 0;
-    while k < TEXELS {
+    for k in 0..TEXELS {
         words[k] = word_at(stored, k);
-        k += 1;
     }
     words
 }
@@ -50,7 +35,7 @@ fn stored_words(stored: &[u8; 576]) -> [u32; TEXELS]
 fn texels(head: &[u8; 19]) -> usize
     ensures { result ≡ texels_of head.now }
 {
-    usize_of(head[0]) * usize_of(head[1])
+    usize::from(head[0]) * usize::from(head[1])
 }
 
 // Whether a decoder gave another answer than is stored, or other words in any place.
@@ -58,15 +43,13 @@ fn differs(head: &[u8; 19], stored: &[u8; 576], answer: usize, words: &[u32; TEX
     ensures { result ≡
         differs_from head.now stored.now answer words.now }
 {
-    if answer != usize_of(head[2]) {
-        return true;
-    }
-    let whole = stored_words(stored);
-    program_compare::count_differences(words, &whole, texels(head)) > 0
+    answer != usize::from(head[2])
+        || program_compare::count_differences(words, &stored_words(stored), texels(head)) > 0
 }
 
-// What the records so far came to, and whether another may follow.
-#[derive(Clone, Copy)]
+// What the records so far came to, and whether another may follow. That stands in a flag since
+// `closed_at` and `counted_in` of the specs, which the promises name, write it there.
+#[derive(Clone, Copy, Debug, PartialEq, Eq, Hash, Default)]
 pub struct Tally {
     pub running: bool,
     pub blocks: usize,
@@ -75,20 +58,20 @@ pub struct Tally {
     pub malformed: usize,
 }
 
-// The tally at the list's end, or at a malformed record.
+// The tally at the list's end, or at a malformed record: a flag, as `closed_at` of the specs takes it.
+#[tactic(auto, unfolding(crate::specs::Stored::closed_at))]
 pub fn closed(t: Tally, malformed: bool) -> Tally
     ensures { result ≡ closed_at t malformed }
 {
     Tally {
         running: false,
-        blocks: t.blocks,
-        words: t.words,
-        different: t.different,
         malformed: program_counts::added(t.malformed, program_counts::one_if(malformed)),
+        ..t
     }
 }
 
 // The tally with a record of so many words.
+#[tactic(auto, unfolding(crate::specs::Stored::counted_in))]
 fn counted(t: Tally, words: usize, different: bool) -> Tally
     ensures { result ≡ counted_in t words different }
 {
@@ -97,7 +80,7 @@ fn counted(t: Tally, words: usize, different: bool) -> Tally
         blocks: program_counts::added(t.blocks, 1),
         words: program_counts::added(t.words, words),
         different: program_counts::added(t.different, program_counts::one_if(different)),
-        malformed: t.malformed,
+        ..t
     }
 }
 
@@ -115,7 +98,7 @@ pub fn count_record(
         record_in t head.now stored.now answer words.now }
     ensures answers_after { answers.new ≡ answer_in answers.old head.now }
 {
-    let stored_answer = usize_of(head[2]);
+    let stored_answer = usize::from(head[2]);
     answers[stored_answer] = program_counts::added(answers[stored_answer], 1);
     counted(t, texels(head), differs(head, stored, answer, words))
 }

@@ -1,4 +1,6 @@
-// The data of the images: blocks of all kinds in turn, and how many of them break a rule.
+// The data of the images: blocks of all kinds in turn, and how many of them break a rule. The kinds
+// are test data: their numbers come of counting blocks modulo eight, and say nothing elsewhere.
+use answers::Verdict;
 use footprint::{Footprint, TEXELS};
 use program_compare::MARKER;
 
@@ -47,33 +49,22 @@ fn byte_at(place: usize, kind: usize, random: u8) -> u8 {
 // Fills blocks of all kinds in turn, from the kind that the seed names on.
 pub(crate) fn fill(data: &mut [u8], seed: usize) {
     let mut state = seed as u64;
-    let mut k = 0;
-    while k < data.len() {
+    for (k, byte) in data.iter_mut().enumerate() {
         state = advanced(state);
-        data[k] = byte_at(k % 16, (k / 16 + seed % 8) % 8, byte_of(state));
-        k += 1;
+        *byte = byte_at(k % 16, (k / 16 + seed % 8) % 8, byte_of(state));
     }
 }
 
-// Whether a block by itself answers 10 to 16.
+// Whether a block by itself breaks a rule.
 fn is_bad(block: &[u8], f: Footprint) -> bool {
     let mut words = [MARKER; TEXELS];
-    let answer = block::decode_astc_block(block, f, &mut words);
-    if answer < answers::RESERVED_MODE {
-        return false;
-    }
-    answer <= answers::TOO_LITTLE_ROOM
+    let outcome = block::decode_astc_block(block, f, &mut words);
+    matches!(outcome, Ok(Verdict::Broken(_)))
 }
 
-// How many blocks answer 10 to 16, each by itself.
+// How many blocks break a rule, each by itself.
 pub(crate) fn count_bad(data: &[u8], f: Footprint) -> usize {
-    let mut found = 0;
-    let mut b = 0;
-    while b < data.len() / 16 {
-        let start = 16 * b;
-        let end = start + 16;
-        found = program_counts::added(found, program_counts::one_if(is_bad(&data[start..end], f)));
-        b += 1;
-    }
-    found
+    data.chunks_exact(16)
+        .filter(|block| is_bad(block, f))
+        .count()
 }

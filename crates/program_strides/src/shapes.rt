@@ -1,5 +1,6 @@
-// The images that are painted: fourteen footprints at six sizes.
-ghost use Rattle.std.specs.Prelude.{◌+◌, ◌/◌, ◌≤◌};
+// The images that are painted: fourteen footprints at six sizes. The numbers of both are test data,
+// which stand here alone.
+ghost use Rattle.std.specs.Prelude.{◌≤◌};
 ghost use Rattle.program_strides.specs.Strides.{CursorBounds};
 
 use footprint::Footprint;
@@ -60,10 +61,15 @@ fn height_at(s: usize, bh: usize) -> usize
     }
 }
 
-// The cursor before the first block of an image of footprint f and size s.
-pub(crate) fn start_of(f: usize, s: usize) -> image::Cursor
-    ensures { CursorBounds result }
-{
+// The cursor before the first block of an image, with the bounds that its sides have.
+#[derive(Clone, Copy)]
+pub struct Start {
+    pub cursor: image::Cursor,
+    ghost bounds: { CursorBounds cursor },
+}
+
+// The start of an image of footprint f and size s.
+pub(crate) fn start_of(f: usize, s: usize) -> Start {
     let footprint = Footprint {
         width: block_width(f),
         height: block_height(f),
@@ -73,28 +79,21 @@ pub(crate) fn start_of(f: usize, s: usize) -> image::Cursor
         height: height_at(s, footprint.height),
         footprint,
     };
-    image::Cursor { shape, next: 0 }
+    let cursor = image::Cursor { shape, next: 0 };
+    Start { cursor }
 }
 
-// How many blocks of `side` pixels it takes to cover n pixels.
-fn along(n: usize, side: usize) -> usize
-    requires { (n ≤ 40) × ((4 ≤ side) × (side ≤ 12)) }
-    ensures { result ≤ (n + 3) / 4 }
-{
-    (n + (side - 1)) / side
-}
-
-pub(crate) fn blocks_of(c: image::Cursor) -> usize
-    requires { CursorBounds c }
+pub(crate) fn blocks_of(start: Start) -> usize
     ensures { result ≤ 80 }
 {
-    let m = c.shape;
-    along(m.width, m.footprint.width) * along(m.height, m.footprint.height)
+    let m = start.cursor.shape;
+    let f = m.footprint;
+    let across = image_shape::along(m.width, f.width);
+    let down = image_shape::along(m.height, f.height);
+    across * down
 }
 
-pub(crate) fn pixels_of(c: image::Cursor) -> usize
-    requires { CursorBounds c }
-{
-    let m = c.shape;
+pub(crate) fn pixels_of(start: Start) -> usize {
+    let m = start.cursor.shape;
     m.width * m.height
 }

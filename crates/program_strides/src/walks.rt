@@ -36,10 +36,11 @@ pub(crate) fn walk_through(
         bad: 0,
         refused: 0,
     };
-    let mut left = turns;
-    while left > 0 && w.moving {
+    for _ in 0..turns {
         w = walked(w, data, blocks, out);
-        left -= 1;
+        if !w.moving {
+            break;
+        }
     }
     w
 }
@@ -53,17 +54,5 @@ pub(crate) fn came(w: Walk) -> Came
         painted: w.painted,
         bad: w.bad,
         refused: w.refused,
-    }
-}
-
-pub(crate) fn step_size(i: usize) -> usize {
-    match i {
-        0 => 1,
-        1 => 2,
-        2 => 3,
-        3 => 5,
-        4 => 7,
-        5 => 16,
-        _ => 100,
     }
 }

@@ -4,20 +4,21 @@
 ghost use Rattle.std.specs.Prelude.{◌≡◌, ◌+◌, ◌≤◌, length};
 ghost use Rattle.program_text.specs.Text.{decimal, count_line, Placed};
 
-// The number of the standard output.
-const STDOUT: i32 = 1;
+// The numbers of the standard streams, which the kit's io takes as they are.
+pub const STDIN: i32 = 0;
+
+pub const STDOUT: i32 = 1;
+
+pub const STDERR: i32 = 2;
 
 // Puts a text into the line at a place, and gives the place after it.
 pub fn put_text(line: &mut [u8], at: usize, text: &[u8]) -> usize
     requires { at + length text.now ≤ length line.old }
     ensures { Placed line.old at text.now line.new result }
 {
-    let mut i = 0;
-    while i < text.len() {
-        line[at + i] = text[i];
-        i += 1;
-    }
-    at + i
+    let after = at + text.len();
+    line[at..after].copy_from_slice(text);
+    after
 }
 
 // Puts a number's decimal digits into the line at a place, and gives the place after them.

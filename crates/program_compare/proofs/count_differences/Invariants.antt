@@ -6,7 +6,4 @@ use mathlib.Core.Path.{◌≡◌}
 use Rattle.program_compare.proofs.count_differences.Given as goal
 
 abbrev pub invariant-loop-k : goal.invariant-loop-k
-invariant-loop-k l = (l.k ≤ length l.words) × ((l.found ≡ differences l.words l.whole l.n l.k) × (l.found ≤ l.k))
-
-abbrev pub decreases-loop-k : goal.decreases-loop-k
-decreases-loop-k l = length l.words - l.k
+invariant-loop-k l = (l.found ≡ differences l.words l.whole l.n l.k) × (l.found ≤ l.k)

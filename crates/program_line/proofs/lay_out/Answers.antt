@@ -4,8 +4,8 @@ use Rattle.program_line.specs.LineLaws.{line-painted, line_refused}
 use native.Mathlib.Omega.{arith}
 use Rattle.program_line.proofs.lay_out.Goals as goal
 
-pub returns-then-answer-lt-BLOCK_LENGTH : goal.returns-then-answer-lt-BLOCK_LENGTH
-returns-then-answer-lt-BLOCK_LENGTH c =
+pub returns-then-answer : goal.returns-then-answer
+returns-then-answer c =
     let s = c.args in
     let placed =
     placed-next

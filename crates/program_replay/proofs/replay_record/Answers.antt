@@ -2,4 +2,4 @@
 use Rattle.program_replay.proofs.replay_record.Goals as goal
 
 pub returns : goal.returns
-returns c = record { value = rw (c.decode_astc_block-answer.ensures.value, c.decode_astc_block-answer.ensures.out_after, c.footprint_of-f.ensures.value) at c.count_record.ensures.value; answers_after = c.count_record.ensures.answers_after }
+returns c = record { value = rw (c.answer_number-answer.ensures, c.decode_astc_block.ensures.value, c.decode_astc_block.ensures.out_after, c.footprint_of-f.ensures) at c.count_record.ensures.value; answers_after = c.count_record.ensures.answers_after }

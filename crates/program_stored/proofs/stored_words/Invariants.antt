@@ -8,7 +8,4 @@ use Rattle.program_stored.specs.Stored.{word_at}
 use Rattle.program_stored.proofs.stored_words.Given as goal
 
 abbrev pub invariant-loop-k : goal.invariant-loop-k
-invariant-loop-k l = (l.k ≤ most_texels) × (l.words ≡ put (word_at l.stored) 0 l.k (replicate most_texels 0))
-
-abbrev pub decreases-loop-k : goal.decreases-loop-k
-decreases-loop-k l = most_texels - l.k
+invariant-loop-k l = l.words ≡ put (word_at l.stored) 0 l.k (replicate most_texels 0)

@@ -5,7 +5,4 @@ use mathlib.Core.Path.{◌≡◌}
 use Rattle.program_leaves.proofs.colours.count_to.Given as goal
 
 abbrev pub invariant-loop-i : goal.invariant-loop-i
-invariant-loop-i l = (l.i ≤ l.parts) × ((l.n ≡ count_to l.modes l.i) × (l.n ≤ 256 * l.i))
-
-abbrev pub decreases-loop-i : goal.decreases-loop-i
-decreases-loop-i l = l.parts - l.i
+invariant-loop-i l = (l.n ≡ count_to l.modes l.i) × (l.n ≤ 256 * l.i)

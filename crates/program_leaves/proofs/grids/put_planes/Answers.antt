@@ -12,13 +12,6 @@ overflow_mul-n c =
     let p : c.args.g.planes ≤ 2 = omega arith in
     omega (arith, mul-le-mul w h, mul-le-mul (mul-le-mul w h) p)
 
-pub overflow_mul-n-2 : goal.overflow_mul-n-2
-overflow_mul-n-2 c =
-    let w : c.args.g.width ≤ 12 = le_trans c.requires.0.wide.1 c.requires.0.sides.width in
-    let h : c.args.g.height ≤ 12 = le_trans c.requires.0.high.1 c.requires.0.sides.height in
-    let p : c.args.g.planes ≤ 2 = omega arith in
-    omega (arith, mul-le-mul w h, mul-le-mul (mul-le-mul w h) p)
-
 pub put_grid-requires : goal.put_grid-requires
 put_grid-requires c =
     let p = c.requires in

@@ -2,10 +2,6 @@
 use Rattle.program_leaves.specs.ValuesIn.{decoded}
 use Rattle.program_leaves.proofs.sequences.values_of.Goals as goal
 
-pub returns-then-down : goal.returns-then-down
-returns-then-down c =
-    decoded _ _ _ _ _ c.legal_range-r.ensures.0 c.decode_intseq_reverse.ensures
-
 pub returns : goal.returns
 returns c =
-    decoded _ _ _ _ _ c.legal_range-r.ensures.0 c.decode_intseq.ensures
+    decoded _ _ _ _ _ c.legal_range.ensures.0 c.decode_intseq.ensures
