@@ -8,4 +8,7 @@ pub mod TightLayers
 pub mod TightBlock
 pub mod TightImage
 pub mod TightPrograms
+pub mod NumbersBlock
+pub mod NumbersImage
+pub mod NumbersLayers
 pub mod Reduced

@@ -32,6 +32,18 @@ TightBlock P = (r s : Block) → Words r → Words s → P r → P s → r ≡ s
 pub one : (A : Type 0) (x : A) → Tight A (λ r. r ≡ x)
 one A x r s p q = p ∙ sym q
 
+-- a number that tells its answer
+pub told : (A : Type 0) (number : A → ℕ) → ((a b : A) → number a ≡ number b → a ≡ b) → (n : ℕ) → Tight A (λ r. number r ≡ n)
+told A number only n r s p q = only r s (p ∙ sym q)
+
+-- and the same with an output, and with two
+pub told-both : (A B : Type 0) (number : A → ℕ) → ((a b : A) → number a ≡ number b → a ≡ b) → (n : ℕ) (b : B) → TightBoth A B (λ r x. (number r ≡ n) × (x ≡ b))
+told-both A B number only n b r s x y p q = (only r s (p.0 ∙ sym q.0), p.1 ∙ sym q.1)
+
+pub told-three : (A B C : Type 0) (number : A → ℕ) → ((a b : A) → number a ≡ number b → a ≡ b) → (n : ℕ) (b : B) (c : C)
+    → TightThree A B C (λ r x z. (number r ≡ n) × (x ≡ b) × (z ≡ c))
+told-three A B C number only n b c r s x y z w p q = (only r s (p.0 ∙ sym q.0), p.1 ∙ sym q.1, p.2 ∙ sym q.2)
+
 pub three : (A B C : Type 0) (a : A) (b : B) (c : C) → TightThree A B C (λ r x z. (r ≡ a) × (x ≡ b) × (z ≡ c))
 three A B C a b c r s x y z w p q = (p.0 ∙ sym q.0, p.1 ∙ sym q.1, p.2 ∙ sym q.2)
 

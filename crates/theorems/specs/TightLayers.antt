@@ -1,9 +1,14 @@
 -- Each public promise of the layers below the block allows one outcome (Tight says what that means).
 -- Assumes nothing.
-use Rattle.std.specs.Prelude.{◌≡◌, Bool, List, ℕ, ◌+◌, ◌*◌, ◌/◌, ◌^◌, ◌≤◌, ◌<◌, Float, get_or}
+use Rattle.std.specs.Prelude.{◌≡◌, Bool, List, ℕ, ◌+◌, ◌*◌, ◌/◌, ◌^◌, ◌≤◌, ◌<◌, Float, Result, IfOk, get_or}
 use Rattle.std.proofs.Common.{sym, ◌∙◌}
 use Rattle.laws.specs.Lists.{put, put_at}
 use Rattle.answers.specs.Answers.{is_bad}
+use Rattle.answers.specs.Results.{verdict_number, refused, broken, answered}
+use Rattle.answers.specs.ResultLaws.{one-verdict, one-broken}
+use Rattle.answers.specs.declared.Refusal.{Refusal}
+use Rattle.answers.specs.declared.Rule.{Rule as BrokenRule}
+use Rattle.answers.specs.declared.Verdict.{Verdict}
 use Rattle.options.specs.Base.{base}
 use Rattle.options.specs.declared.Options.{Options}
 use Rattle.options.specs.declared.Reading.{Reading}
@@ -15,20 +20,25 @@ use Rattle.bits.specs.Blocks.{value_of}
 use Rattle.bits.specs.declared.Block.{Block}
 use Rattle.sequence_ranges.specs.Digits.{trit_table, quint_table}
 use Rattle.sequence_ranges.specs.Ranges.{range, range_of, total_of}
-use Rattle.sequence_ranges.specs.declared.Kind.TheVariants.{Plain, Trits, Quints}
+use Rattle.sequence_ranges.specs.declared.Kind.TheVariants.{Trits, Quints}
 use Rattle.sequence_ranges.specs.declared.Range.{Range}
 use Rattle.sequence_groups.specs.Sequence.{values_of, group_from}
+use Rattle.sequence_plain.specs.Plain.{plain_from}
 use Rattle.half.specs.Half.{half, product_of, hdr_byte_of, void_byte_of}
 use Rattle.params_low.specs.Low.{is_void, low_of}
 use Rattle.params_modes.specs.Modes.{modes_of, values_to}
+use Rattle.params_modes.specs.declared.Modes.{Modes}
+use Rattle.params_config.specs.Ranges.{cost}
 use Rattle.params_config.specs.Config.{is_reserved, config_of}
 use Rattle.params_config.specs.declared.Config.{Config}
-use Rattle.params_rules.specs.Rules.{verdict}
+use Rattle.params_rules.specs.Rules.{extra_len, used, verdict}
 use Rattle.params_room.specs.Room.{end_range}
+use Rattle.params_room.specs.declared.Legal.{Legal}
 use Rattle.params_map.specs.Map.{no_map, map_of}
 use Rattle.params_map.specs.declared.BlockMap.{BlockMap}
 use Rattle.params_extent.specs.Extent.{extent_in, void_verdict}
-use Rattle.params.specs.Params.{params_of}
+use Rattle.params.specs.Params.{params_of, told as params_told}
+use Rattle.params.specs.Laws.{one-told}
 use Rattle.params.specs.declared.Params.{Params}
 use Rattle.endpoints_unquantise.specs.Unquantised.{endpoint_values}
 use Rattle.endpoints_colours.specs.declared.Endpoints.{Endpoints}
@@ -62,11 +72,18 @@ use Rattle.texels_read.specs.Read.{texel_in}
 use Rattle.texels_numbers.specs.Numbers.{numbers_from, marks_from, numbers_in}
 use Rattle.texels.specs.Kinds.{starts_of, Ahead, either_of, any_of}
 use Rattle.texels.specs.declared.Starts.{Starts}
-use Rattle.theorems.specs.Tight.{Tight, TightBoth, TightBlock, one, both, block}
+use Rattle.texels.specs.declared.block.BlockData.{BlockData}
+use Rattle.theorems.specs.Tight.{Tight, TightBoth, TightBlock, one, told, both, block}
 
 -- ---- answers
 pub is-bad : (a : ℕ) → Tight Bool (λ r. r ≡ is_bad a)
 is-bad a = one Bool (is_bad a)
+
+pub refusal-number : (outcome : Result (Unit {0}) Refusal) → Tight ℕ (λ r. r ≡ refused outcome)
+refusal-number outcome = one ℕ (refused outcome)
+
+pub answer-number : (outcome : Result Verdict Refusal) → Tight ℕ (λ r. r ≡ answered outcome)
+answer-number outcome = one ℕ (answered outcome)
 
 -- ---- options
 pub no-options : Tight Options (λ r. r ≡ base)
@@ -127,8 +144,8 @@ put-quints b d i o = one (List ℕ) (put (group_from (range Quints b) d i) i (i 
 pub clear : (n : ℕ) (o : List ℕ) → Tight (List ℕ) (λ out. out ≡ put (λ (k : ℕ). 0) n (n + 5) o)
 clear n o = one (List ℕ) (put (λ (k : ℕ). 0) n (n + 5) o)
 
-pub decode-plain-by : (w : Block) (b n : ℕ) → Tight (List ℕ) (λ out. out ≡ values_of (range Plain b) (value_of w) n)
-decode-plain-by w b n = one (List ℕ) (values_of (range Plain b) (value_of w) n)
+pub put-plain : (b d i : ℕ) (o : List ℕ) → Tight (List ℕ) (λ out. out ≡ put (plain_from b d i) i (i + 6) o)
+put-plain b d i o = one (List ℕ) (put (plain_from b d i) i (i + 6) o)
 
 pub decode : (w : Block) (r : Range) (n : ℕ) → Tight (List ℕ) (λ out. out ≡ values_of r (value_of w) n)
 decode w r n = one (List ℕ) (values_of r (value_of w) n)
@@ -166,11 +183,14 @@ is-void b = one Bool (is_void (value_of b))
 pub low-config : (b : Block) → Tight ℕ (λ r. r ≡ low_of (value_of b))
 low-config b = one ℕ (low_of (value_of b))
 
-pub modes-of : (parts base code : ℕ) → Tight (List ℕ) (λ r. r ≡ modes_of parts base code)
-modes-of parts base code = one (List ℕ) (modes_of parts base code)
+pub modes-of : (m : Modes) → Tight (List ℕ) (λ r. r ≡ modes_of m.parts m.base m.code)
+modes-of m = one (List ℕ) (modes_of m.parts m.base m.code)
 
-pub values-of : (parts base code : ℕ) → Tight ℕ (λ r. r ≡ values_to base code parts)
-values-of parts base code = one ℕ (values_to base code parts)
+pub values-of : (m : Modes) → Tight ℕ (λ r. r ≡ values_to m.base m.code m.parts)
+values-of m = one ℕ (values_to m.base m.code m.parts)
+
+pub range-bits : (q n : ℕ) → Tight ℕ (λ r. r ≡ cost q n)
+range-bits q n = one ℕ (cost q n)
 
 pub is-reserved : (c : ℕ) → Tight Bool (λ r. r ≡ is_reserved c)
 is-reserved c = one Bool (is_reserved c)
@@ -178,10 +198,16 @@ is-reserved c = one Bool (is_reserved c)
 pub read-config : (c : ℕ) → Tight Config (λ r. r ≡ config_of c)
 read-config c = one Config (config_of c)
 
-pub judge : (k : Config) (f : Footprint) → Tight ℕ (λ r. r ≡ verdict k f)
-judge k f = one ℕ (verdict k f)
+pub extra-len : (k : Config) → Tight ℕ (λ r. r ≡ extra_len k)
+extra-len k = one ℕ (extra_len k)
 
-pub end-range : (k : Config) → Tight ℕ (λ r. (r ≡ end_range k) × (r < 21))
+pub used-bits : (k : Config) → Tight ℕ (λ r. r ≡ used k)
+used-bits k = one ℕ (used k)
+
+pub judge : (k : Config) (f : Footprint) → Tight (Result (Unit {0}) BrokenRule) (λ r. broken r ≡ verdict k f)
+judge k f = told (Result (Unit {0}) BrokenRule) broken one-broken (verdict k f)
+
+pub end-range : (k : Legal) → Tight ℕ (λ r. (r ≡ end_range k.config) × (r < 21))
 end-range k r s p q = p.0 ∙ sym q.0
 
 pub no-map : (a : ℕ) → Tight BlockMap (λ r. r ≡ no_map a)
@@ -190,11 +216,14 @@ no-map a = one BlockMap (no_map a)
 pub decode-block-map : (b : Block) (f : Footprint) → Tight BlockMap (λ r. r ≡ map_of (value_of b) f)
 decode-block-map b f = one BlockMap (map_of (value_of b) f)
 
+pub legal-params : (b : Block) (f : Footprint) → Tight (Result Params BrokenRule) (λ r. (params_told r ≡ params_of (value_of b) f) × (IfOk r (λ p. p.answer ≡ 0)))
+legal-params b f r s p q = one-told r s (p.0 ∙ sym q.0) p.1 q.1
+
 pub decode-block-params : (b : Block) (f : Footprint) → Tight Params (λ r. r ≡ params_of (value_of b) f)
 decode-block-params b f = one Params (params_of (value_of b) f)
 
-pub void-verdict : (reading : Reading) (b : Block) → Tight ℕ (λ r. r ≡ void_verdict reading (extent_in (value_of b)))
-void-verdict reading b = one ℕ (void_verdict reading (extent_in (value_of b)))
+pub void-verdict : (reading : Reading) (b : Block) → Tight Verdict (λ r. verdict_number r ≡ void_verdict reading (extent_in (value_of b)))
+void-verdict reading b = told Verdict verdict_number one-verdict (void_verdict reading (extent_in (value_of b)))
 
 -- ---- endpoints
 pub endpoints-unquantize : (q : ℕ) (seq : List ℕ) → Tight (List ℕ) (λ out. out ≡ endpoint_values q seq)
@@ -274,18 +303,18 @@ pub hdr-channel : (v0 v1 w : ℕ) → Tight ℕ (λ r. r ≡ hdr_channel v0 v1 w
 hdr-channel v0 v1 w = one ℕ (hdr_channel v0 v1 w)
 
 -- LDR texels, HDR texels and texels of both have one promise
-module _ (n planes channel : ℕ) (ends : List Endpoints) (w partitions s : List ℕ) where
-  pub applicate-color : Tight (List ℕ) (λ out. out ≡ put (lane_at (texel_word ends w partitions planes channel)) 0 (2 * eights_of n) s)
-  applicate-color = one (List ℕ) (put (lane_at (texel_word ends w partitions planes channel)) 0 (2 * eights_of n) s)
+module _ (d : BlockData) (s : List ℕ) where
+  pub applicate-color : Tight (List ℕ) (λ out. out ≡ put (lane_at (texel_word d.endpoints d.weights.now d.partition.now d.planes d.channel)) 0 (2 * eights_of d.n) s)
+  applicate-color = one (List ℕ) (put (lane_at (texel_word d.endpoints d.weights.now d.partition.now d.planes d.channel)) 0 (2 * eights_of d.n) s)
 
-  pub paint-ldr : Tight (List ℕ) (λ out. out ≡ put (lane_at (texel_word ends w partitions planes channel)) 0 (2 * eights_of n) s)
+  pub paint-ldr : Tight (List ℕ) (λ out. out ≡ put (lane_at (texel_word d.endpoints d.weights.now d.partition.now d.planes d.channel)) 0 (2 * eights_of d.n) s)
   paint-ldr = applicate-color
 
-  pub paint-hdr : Tight (List ℕ) (λ out. out ≡ put (lane_at (texel_word ends w partitions planes channel)) 0 (2 * eights_of n) s)
+  pub paint-hdr : Tight (List ℕ) (λ out. out ≡ put (lane_at (texel_word d.endpoints d.weights.now d.partition.now d.planes d.channel)) 0 (2 * eights_of d.n) s)
   paint-hdr = applicate-color
 
-pub put-samples : (n planes channel : ℕ) (ends : List Endpoints) (w partitions s : List ℕ) → Tight (List ℕ) (λ out. out ≡ samples_in n (texel_lane ends w partitions planes channel) s)
-put-samples n planes channel ends w partitions s = one (List ℕ) (samples_in n (texel_lane ends w partitions planes channel) s)
+  pub put-samples : Tight (List ℕ) (λ out. out ≡ samples_in d.n (texel_lane d.endpoints d.weights.now d.partition.now d.planes d.channel) s)
+  put-samples = one (List ℕ) (samples_in d.n (texel_lane d.endpoints d.weights.now d.partition.now d.planes d.channel) s)
 
 pub samples-at : (lanes : List ℕ) (i : ℕ) → Tight Samples (λ r. r ≡ texel_in lanes i)
 samples-at lanes i = one Samples (texel_in lanes i)
