@@ -5,6 +5,8 @@ use Rattle.blend.specs.Blend.{ldr_channel}
 use Rattle.endpoints_colours.specs.declared.Mark.TheVariants.{Ldr}
 use Rattle.endpoints_colours.specs.declared.Endpoints.{Endpoints}
 use Rattle.texels.specs.Texels.{word_by}
+use Rattle.texels.specs.declared.Starts.{Starts}
+use Rattle.texels_ldr.specs.declared.Weights.{Weights}
 
 -- LDR endpoints, whose numbers are bytes
 pub record Plain (e : Endpoints) : Type 0 where
@@ -18,6 +20,14 @@ pub record Plain (e : Endpoints) : Type 0 where
   pub g1 : e.g1 ≤ 255
   pub b1 : e.b1 ≤ 255
   pub a1 : e.a1 ≤ 255
+
+-- the weights of texel i
+pub record WeightsAt (weights : List ℕ) (k : Starts) (i : ℕ) (v : Weights) : Type 0 where
+  pub r : v.r ≡ get_or weights (k.r + i) 0
+  pub g : v.g ≡ get_or weights (k.g + i) 0
+  pub b : v.b ≡ get_or weights (k.b + i) 0
+  pub a : v.a ≡ get_or weights (k.a + i) 0
+  pub light : (v.r ≤ 64) × (v.g ≤ 64) × (v.b ≤ 64) × (v.a ≤ 64)
 
 -- the word of texel i between the endpoints e, where every channel has the weight of one plane
 abbrev pub word_one : Endpoints → List ℕ → ℕ → ℕ

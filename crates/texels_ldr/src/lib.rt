@@ -10,12 +10,35 @@ ghost use Rattle.endpoints_colours.specs.Colours.{nothing};
 ghost use Rattle.lanes.specs.Lanes.{lane_at, eights};
 ghost use Rattle.texels.specs.Texels.{texel_word, word_by};
 ghost use Rattle.texels.specs.Kinds.{Ahead, word_at, AllOf, either_of, any_of};
-ghost use Rattle.texels_ldr.specs.Plain.{Plain, word_one, ldr_pair};
+ghost use Rattle.texels_ldr.specs.Plain.{Plain, WeightsAt, word_one, ldr_pair};
 
 use endpoints_colours::{Endpoints, Mark};
 use footprint::WEIGHTS;
 use lanes::{LANES, eights};
 use texels::{BlockData, Starts, any, either, starts_of};
+
+// The weights of a texel's channels: a record, since `WeightsAt` of the specs is stated over it.
+#[derive(Clone, Copy, Debug, PartialEq, Eq, Hash)]
+pub struct Weights {
+    pub r: u16,
+    pub g: u16,
+    pub b: u16,
+    pub a: u16,
+}
+
+// The weights of texel i, each channel's from its own start.
+fn weights_at(w: &[u8; WEIGHTS], k: Starts, i: usize) -> Weights
+    requires place { Ahead k × (i < most_texels) }
+    requires light { (j : ℕ) → get_or w.now j 0 ≤ 64 }
+    ensures { WeightsAt w.now k i result }
+{
+    Weights {
+        r: u16::from(w[k.r + i]),
+        g: u16::from(w[k.g + i]),
+        b: u16::from(w[k.b + i]),
+        a: u16::from(w[k.a + i]),
+    }
+}
 
 // A lane of two blended LDR channels, the first of them the low byte: a sum, as `ldr_pair` has it,
 // where `from_le_bytes` would need casts to bytes. The ends and weights are one number each, which
@@ -27,15 +50,15 @@ fn pair(x0: u16, x1: u16, y0: u16, y1: u16, v: u16, w: u16) -> u16
     blend::select_color_byte(x0, x1, v) + 256 * blend::select_color_byte(y0, y1, w)
 }
 
-// The two lanes of a texel's word, between LDR endpoints at a weight for each channel.
-fn lanes_between(e: Endpoints, r: u8, g: u8, b: u8, a: u8) -> (u16, u16)
-    requires { Plain e × (r ≤ 64) × (g ≤ 64) × (b ≤ 64) × (a ≤ 64) }
-    ensures low { result.0 ≡ word_by e r g b a % 65536 }
-    ensures high { result.1 ≡ word_by e r g b a / 65536 }
+// The two lanes of a texel's word, between LDR endpoints at the weights of its channels.
+fn lanes_between(e: Endpoints, v: Weights) -> (u16, u16)
+    requires { Plain e × (v.r ≤ 64) × (v.g ≤ 64) × (v.b ≤ 64) × (v.a ≤ 64) }
+    ensures low { result.0 ≡ word_by e v.r v.g v.b v.a % 65536 }
+    ensures high { result.1 ≡ word_by e v.r v.g v.b v.a / 65536 }
 {
     (
-        pair(e.b0, e.b1, e.g0, e.g1, u16::from(b), u16::from(g)),
-        pair(e.r0, e.r1, e.a0, e.a1, u16::from(r), u16::from(a)),
+        pair(e.b0, e.b1, e.g0, e.g1, v.b, v.g),
+        pair(e.r0, e.r1, e.a0, e.a1, v.r, v.a),
     )
 }
 
@@ -48,8 +71,16 @@ fn lanes_one(e: Endpoints, w: &[u8; WEIGHTS], i: usize) -> (u16, u16)
     ensures low { result.0 ≡ word_one e w.now i % 65536 }
     ensures high { result.1 ≡ word_one e w.now i / 65536 }
 {
-    let x = w[i];
-    lanes_between(e, x, x, x, x)
+    let x = u16::from(w[i]);
+    lanes_between(
+        e,
+        Weights {
+            r: x,
+            g: x,
+            b: x,
+            a: x,
+        },
+    )
 }
 
 // The two lanes of texel i's word, each channel by the weights of its plane.
@@ -60,7 +91,7 @@ fn lanes_at(e: Endpoints, w: &[u8; WEIGHTS], k: Starts, i: usize) -> (u16, u16)
     ensures low { result.0 ≡ word_at e w.now k i % 65536 }
     ensures high { result.1 ≡ word_at e w.now k i / 65536 }
 {
-    lanes_between(e, w[k.r + i], w[k.g + i], w[k.b + i], w[k.a + i])
+    lanes_between(e, weights_at(w, k, i))
 }
 
 // The LDR endpoints of partition p, where partition 0 has a and partition 1 has b. This function and

@@ -5,6 +5,6 @@ use Rattle.texels_ldr.proofs.lanes_between.Goals as goal
 
 pub returns : goal.returns
 returns c = record {
-  low = c.pair.ensures ∙ rw (c.from.ensures, c.from-2.ensures) (sym (ldr-low c.args.e c.requires.0 c.args.r c.args.g c.args.b c.args.a));
-  high = c.pair-2.ensures ∙ rw (c.from-3.ensures, c.from-4.ensures) (sym (ldr-high c.args.e c.requires.0 c.args.r c.args.g c.args.b c.args.a));
+  low = c.pair.ensures ∙ sym (ldr-low c.args.e c.requires.0 c.args.v.r c.args.v.g c.args.v.b c.args.v.a);
+  high = c.pair-2.ensures ∙ sym (ldr-high c.args.e c.requires.0 c.args.v.r c.args.v.g c.args.v.b c.args.v.a);
 }
