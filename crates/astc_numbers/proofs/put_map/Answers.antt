@@ -1,8 +1,6 @@
 -- `astc_numbers::put_map`: each way out is a law of NumberLaws, and the map's numbers are small. Assumes nothing.
 use Rattle.block_map.specs.AnswerLaws.{map-small}
-use Rattle.astc_numbers.specs.NumberLaws.{refused, no_room, written, nine, copied-put}
-use lib.ListN.{length}
-use mathlib.Core.Path.{ap, ◌∙◌}
+use Rattle.astc_numbers.specs.NumberLaws.{refused, no_room, written}
 use native.Mathlib.Omega.{arith}
 use Rattle.astc_numbers.proofs.put_map.Goals as goal
 
@@ -20,4 +18,4 @@ numbers_of-requires c =
 
 pub returns : goal.returns
 returns c =
-    let both = written _ _ c.block_map-m.ensures _ _ _ c.if-m.false c.if-map-lt9.false c.numbers_of.ensures (rw c.copy_from_slice.ensures.after (copied-put 9 c.numbers_of.result _ (ap length c.numbers_of.ensures ∙ nine _) c.if-map-lt9.false)) in record { value = both.0; map_after = both.1 }
+    let both = written _ _ c.block_map-m.ensures _ _ _ c.if-m.false c.if-map-lt9.false c.numbers_of.ensures c.put_numbers.ensures in record { value = both.0; map_after = both.1 }
