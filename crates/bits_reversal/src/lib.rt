@@ -19,7 +19,7 @@ fn swap_runs(x: u64, n: usize, mask: u64) -> u64
 
 // A word with its bits in the other order: neighbouring bits change places, then neighbouring pairs
 // of bits, nibbles, bytes, quarters and halves of the word. The library's `reverse_bits` goes bit
-// by bit: tried, and a one-partition 4x4 block then took a tenth more time.
+// by bit: tried, and a one-partition 4x4 block then took a fifth more time.
 pub fn bit_reverse_u64(x: u64) -> u64
     ensures { result ≡ reversed 64 x }
 {

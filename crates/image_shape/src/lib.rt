@@ -53,7 +53,7 @@ pub fn total(m: Bounded) -> usize
 }
 
 // The shape with its bounds, or why it is none of an image. It and `refusal` are compiled into each
-// caller: as a call that puts its result into memory, a refused image took 1.7 times as long.
+// caller: as a call that puts its result into memory, a refused image took up to 1.8 times as long.
 #[inline(always)]
 #[tactic(auto, unfolding(crate::specs::Shapes::shape_refusal))]
 fn with_bounds(m: Shape) -> Result<Bounded, Refusal>
