@@ -52,9 +52,7 @@ pub fn total(m: Bounded) -> usize
     along(s.width, f.width) * along(s.height, f.height)
 }
 
-// The shape with its bounds, or why it is none of an image. It and `refusal` are compiled into each
-// caller: as a call that puts its result into memory, a refused image took up to 1.8 times as long.
-#[inline(always)]
+// The shape with its bounds, or why it is none of an image.
 #[tactic(auto, unfolding(crate::specs::Shapes::shape_refusal))]
 fn with_bounds(m: Shape) -> Result<Bounded, Refusal>
     ensures refusal { checked result ≡ shape_refusal m }
@@ -69,7 +67,9 @@ fn with_bounds(m: Shape) -> Result<Bounded, Refusal>
     Ok(Bounded { shape: m })
 }
 
-// The shape with its bounds, or why an image with so many bytes and so much room is refused.
+// The shape with its bounds, or why an image with so many bytes and so much room is refused. It is
+// compiled into each caller: as a call that puts its result into memory, a refused image took up to
+// 1.8 times as long.
 #[inline(always)]
 #[tactic(auto, unfolding(crate::specs::Shapes::shape_refusal, crate::specs::Shapes::refusal_of))]
 pub fn refusal(m: Shape, len: usize, room: usize) -> Result<Bounded, Refusal>
